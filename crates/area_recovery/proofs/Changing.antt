@@ -1,7 +1,8 @@
 -- What is recovered stays so while a file without a name is dropped, or the marks are set, where no record counts.
-use Rattle.std.proofs.Common.{◌≡◌, ◌≢◌, ◌⊎◌, inl, inr, ℕ, ◌≤◌, ◌*◌, ◌+◌, ◌++◌, ◌==◌, ◌&&◌, ◌||◌, zero, suc, true, false, Bool, cond, List, [], ◌∷◌, Option, Some, None, refl, ap, sym, ◌∙◌, subst, arith, rules}
+use Rattle.std.proofs.Common.{◌≡◌, ◌≢◌, ◌⊎◌, inl, inr, ℕ, ◌≤◌, ◌*◌, ◌+◌, ◌++◌, ◌==◌, ◌&&◌, ◌||◌, zero, suc, true, false, Bool, cond, List, [], ◌∷◌, Option, Some, None, refl, ap, sym, ◌∙◌, subst, arith}
 use Rattle.std.specs.Prelude.{Result, Err, OnOk, IfErr, length}
 use Rattle.std.specs.FinMap as fin
+use Rattle.std.specs.Ordering.{nat_cmp}
 use Rattle.std.proofs.lemmas.Bool.{false≢true, eq-eqb}
 use Rattle.std.proofs.lemmas.Bool.Decides.{eqb_tells}
 use Rattle.tier_device.specs.declared.media.Media.{Ghosts}
@@ -18,17 +19,14 @@ use Rattle.recovery_laws.specs.shared_area.Ready.{OpensAs}
 use Rattle.recovery_laws.specs.shared_area.GraphUpdate.{OpensChangedOrNot, StaysOrChanges, AppliesOrStays}
 use Rattle.recovery_laws.specs.graph_change.Change.{Change, Changes, Coalesces, changed_graph, coalesced_changes}
 use Rattle.recovery_laws.specs.change_plan.BlockDemand.{images_for, AreWritten}
-use Rattle.recovery_laws.specs.coalescer.Weight.{fits_chunk}
-use Rattle.recovery_laws.specs.coalescer.Within.{images_of}
 use Rattle.recovery_laws.specs.change_plan.Next.{nodes_for}
 use Rattle.std.specs.List.{sum_by}
-use Rattle.recovery_laws.proofs.digester_lemmas.Applied.{fit_images}
 use Rattle.recovery_laws.proofs.shared_area_lemmas.Writes.{written_each}
 use Rattle.recovery_laws.specs.area_reader.declared.error.AreaError.{AreaError}
 use Rattle.recovery_laws.specs.area_reader.declared.error.AreaError.TheVariants as area
-use Rattle.system_laws.specs.kernel_fs.Reclaim.{OpensReclaimedOrNot, ReclaimsOrStays, StaysOrReclaims}
-use Rattle.system_laws.specs.kernel_fs.declared.error.ReclaimError.{ReclaimError}
-use Rattle.system_laws.specs.kernel_fs.declared.error.ReclaimError.TheVariants as reclaim
+use Rattle.kernel_fs.specs.Reclaim.{OpensReclaimedOrNot, ReclaimsOrStays, StaysOrReclaims}
+use Rattle.kernel_fs.specs.declared.error.ReclaimError.{ReclaimError}
+use Rattle.kernel_fs.specs.declared.error.ReclaimError.TheVariants as reclaim
 use Rattle.log_survey.proofs.world_invariant_lemmas.Recoveries.{dropped_sound, dropped_state}
 use Rattle.posix_calls.specs.Tree.{State}
 use Rattle.graph_check.specs.file_graph.Graph.{Graph, Node, Body, FileBody, DirBody, set_node, is_among}
@@ -316,18 +314,13 @@ module _ (cs : Changes) (law : Coalesces [] cs) where
   nothing_written x s [] are = omega arith
   nothing_written x s (b ∷ bs) are = absurd (false≢true (law.blocks b.0 b.1 (written_each x s cs (b ∷ bs) are).0))
 
-same_images : (cs : Changes) → images_for cs ≡ images_of cs
-same_images cs = ap (λ (f : ℕ × Change → ℕ). sum_by f (fin.entries cs)) (λ t e. each e t)
-  where
-    each : (e : ℕ × Change) → 1 + nodes_for e.1 ≡ 4 + 2 * fin.len e.1.entries
-    each e = omega arith
-
-nothing_fits : fits_chunk [] ≡ true
-unfolding fits_chunk
-nothing_fits = search rules
+-- it takes no image
+none_for : (es : List (ℕ × Change)) → length es ≡ 0 → sum_by (λ (e : ℕ × Change). 1 + nodes_for e.1) es ≡ 0
+none_for [] e = refl
+none_for (x ∷ es) e = absurd (omega (arith, e))
 
 pub nothing_few : (cs : Changes) → cs ≡ coalesced_changes [] → images_for cs ≤ 255
 nothing_few cs is =
-    let same = same_images cs in
-    let few = subst (λ (c : Changes). images_of c ≤ 255) (sym is) (fit_images [] nothing_fits) in
-    omega (arith, same, few)
+    let empty : length (fin.entries cs) ≡ 0 = ap (λ (c : Changes). length (fin.entries c)) is ∙ sym (fin.len-entries {X = Change} {R = nat_cmp} fin.empty) ∙ fin.len-empty nat_cmp Change in
+    let none : images_for cs ≡ 0 = none_for (fin.entries cs) empty in
+    omega (arith, none)

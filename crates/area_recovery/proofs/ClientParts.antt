@@ -22,7 +22,7 @@ use Rattle.graph_check.specs.file_graph.Graph.{Graph}
 use Rattle.log_survey.specs.world_invariant.Logs.{after_records}
 use Rattle.recovery_laws.specs.layout.declared.marks.Mark.{Mark}
 use Rattle.recovery_laws.specs.layout.declared.marks.Marks.{Marks}
-use Rattle.system_laws.specs.event_lists.Courses.{Content}
+use Rattle.event_lists.specs.Courses.{Content}
 use Rattle.area_recovery.specs.DigestedLogs.{DigestsAll, HaveRecords, IsLogOf, IsRegionReadRefusal, MovesMark}
 use Rattle.area_recovery.specs.Errors.{IsLogDigestRefusal}
 use Rattle.area_recovery.specs.FaultOrMemory.{IsFaultOrMemory}

@@ -14,7 +14,7 @@ use Rattle.recovery_laws.specs.digester.SealedLog.{SealedView, HasUndigested, Is
 use Rattle.recovery_laws.specs.digester.declared.error.DigestError.{DigestError}
 use Rattle.recovery_laws.specs.digester.declared.error.DigestError.TheVariants as digests
 use Rattle.graph_check.specs.log_record.declared.format.Record.{Record}
-use Rattle.system_laws.proofs.kernel_fs_lemmas.SealedRecords.{effects_are}
+use Rattle.kernel_fs.proofs.SealedRecords.{effects_are}
 use Rattle.posix_calls.specs.Operations.{is_client}
 use Rattle.graph_check.specs.file_graph.Graph.{Graph}
 use Rattle.log_survey.specs.world_invariant.Logs.{after_records}

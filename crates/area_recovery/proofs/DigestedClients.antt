@@ -15,7 +15,7 @@ use Rattle.graph_check.specs.file_graph.Graph.{Graph}
 use Rattle.log_survey.specs.world_invariant.Logs.{after_clients, after_records}
 use Rattle.recovery_laws.specs.layout.declared.marks.Mark.{Mark}
 use Rattle.recovery_laws.specs.layout.declared.marks.Marks.{Marks}
-use Rattle.system_laws.specs.Contents.{mark_by}
+use Rattle.recovery_laws.specs.Contents.{mark_by}
 use Rattle.graph_check.specs.log_record.declared.format.Record.{Record}
 use Rattle.area_recovery.specs.declared.error.RecoveryError.{RecoveryError}
 use Rattle.area_recovery.specs.declared.error.RecoveryError.TheVariants as errors

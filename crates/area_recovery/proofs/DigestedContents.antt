@@ -25,7 +25,7 @@ use Rattle.log_survey.specs.update_log.RecordCounts.{counted_records, next_gener
 use Rattle.log_survey.specs.update_log.View.{HasSize}
 use Rattle.graph_check.specs.log_record.Grammar.{IsRecord}
 use Rattle.graph_check.specs.log_record.declared.format.Record.{Record}
-use Rattle.system_laws.proofs.kernel_fs_lemmas.SealedRecords.{effects_are}
+use Rattle.kernel_fs.proofs.SealedRecords.{effects_are}
 use Rattle.log_survey.proofs.world_invariant_lemmas.Owners as owners
 use Rattle.log_survey.proofs.world_invariant_lemmas.Recoveries.{recovered_same, still_recoverable}
 use Rattle.recovery_laws.specs.Inodes.{HasEveryInode}
@@ -40,8 +40,8 @@ use Rattle.graph_check.specs.call_effects.Wholes.{state_of}
 use Rattle.log_survey.specs.world_invariant.Logs.{after_clients, after_records}
 use Rattle.log_survey.specs.world_invariant.Recovery.{IsRecoverable}
 use Rattle.log_survey.specs.world_invariant.World.{at}
-use Rattle.system_laws.specs.event_lists.Courses.{Content}
-use Rattle.system_laws.specs.Contents.{AreInTurn, log_in, mark_by, stored_graph}
+use Rattle.event_lists.specs.Courses.{Content}
+use Rattle.recovery_laws.specs.Contents.{AreInTurn, log_in, mark_by, stored_graph}
 use Rattle.area_recovery.specs.DigestedLogs.{HaveRecords, IsNoBadLog}
 use Rattle.area_recovery.specs.Phases.{StaysRecovered}
 use Rattle.area_recovery.specs.Recovers.{Regions, Recovers, joined}

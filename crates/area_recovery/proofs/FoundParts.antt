@@ -20,8 +20,8 @@ use Rattle.graph_check.specs.file_graph.Graph.{Graph}
 use Rattle.log_survey.specs.world_invariant.Logs.{after_records}
 use Rattle.recovery_laws.specs.layout.declared.marks.Mark.{Mark}
 use Rattle.recovery_laws.specs.layout.declared.marks.Marks.{Marks}
-use Rattle.system_laws.specs.event_lists.Courses.{Content}
-use Rattle.system_laws.specs.Contents.{mark_by}
+use Rattle.event_lists.specs.Courses.{Content}
+use Rattle.recovery_laws.specs.Contents.{mark_by}
 use Rattle.area_recovery.specs.DigestedLogs.{DigestsAll, DigestsLog, StandsAtStart}
 use Rattle.area_recovery.specs.FoundLogs.{HasGeneration, HoldsFew, IsFound, IsRestOf}
 use Rattle.area_recovery.specs.Recovers.{AreThese, Recovers, Regions}

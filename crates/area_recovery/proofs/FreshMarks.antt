@@ -4,7 +4,7 @@ use Rattle.std.specs.Prelude.{get_or, slice_get, slice_index, Some}
 use Rattle.std.proofs.lemmas.List.{length-map}
 use Rattle.recovery_laws.specs.area_reader.Store.{marks, store_of}
 use Rattle.recovery_laws.specs.layout.declared.marks.Mark.{Mark}
-use Rattle.system_laws.specs.event_lists.Courses.{Content}
+use Rattle.event_lists.specs.Courses.{Content}
 use Rattle.area_recovery.specs.Silent.{AreMarked}
 use Rattle.area_recovery.specs.declared.log_search.FoundLog.{FoundLog}
 use Rattle.area_recovery.proofs.ReadContents.{AreFresh, AreGenerations}

@@ -7,8 +7,8 @@ use Rattle.graph_check.specs.log_record.declared.format.Record.{Record}
 use Rattle.log_survey.specs.update_log.RecordCounts.{counted_records, next_generation, records_in, records_under}
 use Rattle.recovery_laws.specs.area_reader.Store.{marks, store_of}
 use Rattle.recovery_laws.specs.layout.declared.marks.Mark.{Mark}
-use Rattle.system_laws.specs.event_lists.Courses.{Content, part_of}
-use Rattle.system_laws.specs.Contents.{AreInTurn, log_in, mark_by, regions_in}
+use Rattle.event_lists.specs.Courses.{Content, part_of}
+use Rattle.recovery_laws.specs.Contents.{AreInTurn, log_in, mark_by, regions_in}
 use Rattle.log_survey.proofs.world_invariant_lemmas.Owners.{is_low}
 use Rattle.area_recovery.specs.Recovers.{Regions, joined, region_content}
 

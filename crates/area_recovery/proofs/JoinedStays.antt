@@ -1,8 +1,8 @@
 -- One stage of a recovery behind another: first the shared medium moves alone, then both go on.
 use Rattle.std.proofs.Common.{◌≡◌, inl, inr, ℕ, zero, suc, ◌<◌, ◌≤◌, ◌∙◌, arith}
 use Rattle.tier_device.specs.declared.media.Media.{Ghosts}
-use Rattle.system_laws.specs.Contents.{CanRecover, stored_state}
-use Rattle.system_laws.specs.event_lists.Courses.{PARTS, LeftBetween, WorldContent}
+use Rattle.recovery_laws.specs.Contents.{CanRecover, stored_state}
+use Rattle.event_lists.specs.Courses.{PARTS, LeftBetween, WorldContent}
 use Rattle.recovery_laws.specs.layout.Places.{Sizes}
 use Rattle.area_recovery.specs.Parts.{contents_of}
 use Rattle.area_recovery.specs.PartMedia.{clocks_of, left_of}

@@ -19,7 +19,7 @@ pub mod JoinedStays
 pub mod SettlementPhases
 pub mod RegionReads
 pub mod ReadContents
-pub mod JoinedWorlds
+pub mod JoinedContents
 pub mod FreshMarks
 pub mod ReadRegions
 pub mod SpelledRecords
@@ -33,5 +33,11 @@ pub mod SharedRecords
 pub mod TouchedRecords
 pub mod UndigestibleRecords
 pub mod RefusalCauses
--- Handed on to the crates above, which list only the highest of what they name.
-pub use Rattle.recovery_laws.proofs as recovery_laws_lemmas
+pub mod ChangedRows
+pub mod FreshTiers
+pub mod PartRows
+pub mod FreshMedia
+pub mod OpenedLists
+pub mod FreshWorlds
+pub mod OpenedParts
+pub mod StoredTrees

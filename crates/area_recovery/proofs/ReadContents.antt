@@ -10,8 +10,8 @@ use Rattle.log_survey.specs.update_log.RecordCounts.{counted_records, next_gener
 use Rattle.tier_device.specs.declared.media.Media.{Ghosts}
 use Rattle.tier_device.specs.declared.media.Tier.TheVariants.{Fast}
 use Rattle.log_survey.proofs.update_log_lemmas.Counts.{other_counts_none}
-use Rattle.system_laws.specs.Contents.{log_in, mark_by}
-use Rattle.system_laws.specs.event_lists.Courses.{Content}
+use Rattle.recovery_laws.specs.Contents.{log_in, mark_by}
+use Rattle.event_lists.specs.Courses.{Content}
 use Rattle.recovery_laws.specs.area_reader.Store.{marks, store_of}
 use Rattle.recovery_laws.specs.digester.MarkMoves.{mark_of}
 use Rattle.recovery_laws.specs.layout.declared.marks.Mark.{Mark}

@@ -9,8 +9,8 @@ use Rattle.tier_device.specs.StopsSince.{LeftSince}
 use Rattle.log_survey.specs.update_log.Moments.{PastStays}
 use Rattle.log_survey.specs.update_log.View.{HasSize, RegionView}
 use Rattle.recovery_laws.specs.batch_journal.View.{JournalView}
-use Rattle.system_laws.specs.Contents.{regions_in}
-use Rattle.system_laws.specs.event_lists.Courses.{PARTS, part_of}
+use Rattle.recovery_laws.specs.Contents.{regions_in}
+use Rattle.event_lists.specs.Courses.{PARTS, part_of}
 use Rattle.posix_calls.specs.Operations.{is_client}
 use Rattle.area_recovery.specs.Parts.{contents_of, part_medium}
 use Rattle.area_recovery.specs.PartMedia.{AreUntouched, media_beneath}

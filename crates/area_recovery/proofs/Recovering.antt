@@ -17,8 +17,8 @@ use Rattle.graph_check.specs.call_effects.Wholes.{IsSound, state_of}
 use Rattle.log_survey.specs.world_invariant.Limits.{AreWithin}
 use Rattle.log_survey.specs.world_invariant.Logs.{after_clients, after_records, is_written, units_in, ArePaid, KeepLimits}
 use Rattle.log_survey.specs.world_invariant.Recovery.{IsRecoverable}
-use Rattle.system_laws.specs.event_lists.Courses.{Content, part_of}
-use Rattle.system_laws.specs.Contents.{AreInTurn, log_in, mark_by, stored_graph}
+use Rattle.event_lists.specs.Courses.{Content, part_of}
+use Rattle.recovery_laws.specs.Contents.{AreInTurn, log_in, mark_by, stored_graph}
 use Rattle.log_survey.proofs.world_invariant_lemmas.Owners as owners
 use Rattle.log_survey.proofs.world_invariant_lemmas.Recoveries.{recovered_sound, settled_same}
 use Rattle.recovery_laws.proofs.AreaLimits.{area_within}

@@ -7,8 +7,8 @@ use Rattle.log_survey.specs.update_log.View.{HasSize, RegionView}
 use Rattle.tier_device.specs.declared.media.Media.{Ghosts}
 use Rattle.tier_device.specs.declared.media.Tier.TheVariants.{Fast}
 use Rattle.log_survey.proofs.world_invariant_lemmas.Owners as owners
-use Rattle.system_laws.specs.Contents.{log_in}
-use Rattle.system_laws.specs.event_lists.Courses.{WorldContent, part_of}
+use Rattle.recovery_laws.specs.Contents.{log_in}
+use Rattle.event_lists.specs.Courses.{WorldContent, part_of}
 use Rattle.recovery_laws.specs.area_reader.Format.{IsOpenable}
 use Rattle.recovery_laws.specs.area_reader.Store.{Store, graph, store_of}
 use Rattle.recovery_laws.specs.batch_journal.Volume.{IsVolume}
@@ -29,7 +29,7 @@ use Rattle.area_recovery.specs.Refusals.{HaveRegionSizes, IsCause, IsFirstSharin
 use Rattle.area_recovery.specs.Regions.{CanBeDenied, IsReopened, REGIONS, place_of, read_of, regions_read}
 use Rattle.area_recovery.specs.Settlement.{AreOpenRegions}
 use Rattle.area_recovery.proofs.DigestibleLogs.{after_same, digest_all_same, digest_same}
-use Rattle.area_recovery.proofs.JoinedWorlds.{all_by_place}
+use Rattle.area_recovery.proofs.JoinedContents.{all_by_place}
 use Rattle.area_recovery.proofs.RegionMedia.{zip_at}
 use Rattle.area_recovery.proofs.Recovering.{same_graph}
 use Rattle.area_recovery.proofs.SilentRegions.{bounds_client}

@@ -3,7 +3,7 @@ use Rattle.std.proofs.Common.{◌≡◌, inl, inr, ℕ, suc, ◌^◌, ◌<◌, �
 use Rattle.std.specs.Prelude.{slice_index_or}
 use Rattle.tier_device.specs.declared.media.Media.{Ghosts}
 use Rattle.tier_device.specs.Media.{Rose}
-use Rattle.system_laws.specs.event_lists.Courses.{PARTS}
+use Rattle.event_lists.specs.Courses.{PARTS}
 use Rattle.area_recovery.specs.Parts.{part_medium}
 use Rattle.area_recovery.specs.PartMedia.{SomeRose}
 use Rattle.area_recovery.specs.Regions.{HaveRisen, REGIONS, SomeZip}

@@ -12,7 +12,7 @@ use Rattle.log_survey.specs.update_log.WipeStops.{generation}
 use Rattle.recovery_laws.specs.batch_journal.View.{JournalView}
 use Rattle.recovery_laws.specs.area_reader.Store.{disk, marks, store_of}
 use Rattle.recovery_laws.specs.layout.declared.marks.Mark.{Mark}
-use Rattle.system_laws.specs.event_lists.Courses.{Content}
+use Rattle.event_lists.specs.Courses.{Content}
 use Rattle.recovery_laws.specs.layout.Places.{Sizes}
 use Rattle.posix_calls.specs.Tree.{State}
 use Rattle.area_recovery.specs.Phases.{StaysRecovered}

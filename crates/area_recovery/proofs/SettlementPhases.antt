@@ -9,8 +9,8 @@ use Rattle.log_survey.specs.update_log.View.{RegionView}
 use Rattle.recovery_laws.specs.batch_journal.View.{JournalView}
 use Rattle.recovery_laws.specs.area_reader.Store.{marks, store_of}
 use Rattle.recovery_laws.specs.layout.declared.marks.Marks.{Marks}
-use Rattle.system_laws.specs.Contents.{log_in}
-use Rattle.system_laws.specs.event_lists.Courses.{Content}
+use Rattle.recovery_laws.specs.Contents.{log_in}
+use Rattle.event_lists.specs.Courses.{Content}
 use Rattle.log_survey.specs.world_invariant.Logs.{LogsAreApart, is_written}
 use Rattle.posix_calls.specs.Operations.{is_client}
 use Rattle.recovery_laws.specs.layout.Places.{Sizes}

@@ -6,8 +6,8 @@ use Rattle.tier_device.specs.declared.media.Tier.TheVariants.{Fast}
 use Rattle.graph_check.specs.log_record.declared.format.Record.{Record}
 use Rattle.log_survey.specs.update_log.RecordCounts.{counted_records, next_generation, records_in, records_under}
 use Rattle.log_survey.specs.update_log.View.{HasSize}
-use Rattle.system_laws.specs.Contents.{AreInTurn, log_in, mark_by, mark_in, regions_in}
-use Rattle.system_laws.specs.event_lists.Courses.{Content, part_of}
+use Rattle.recovery_laws.specs.Contents.{AreInTurn, log_in, mark_by, mark_in, regions_in}
+use Rattle.event_lists.specs.Courses.{Content, part_of}
 use Rattle.recovery_laws.specs.area_reader.Store.{graph, store_of}
 use Rattle.graph_check.specs.call_effects.ClosedGraph.{nobody, settled_graph}
 use Rattle.graph_check.specs.call_effects.Wholes.{IsSound, state_of}

@@ -8,8 +8,8 @@ use Rattle.tier_device.specs.AfterStop.{AtRest, Left}
 use Rattle.tier_device.specs.StopsSince.{LeftSince}
 use Rattle.log_survey.specs.update_log.Moments.{PastStays}
 use Rattle.log_survey.specs.update_log.View.{HasSize}
-use Rattle.system_laws.specs.Contents.{CanRecover, regions_in, stored_state}
-use Rattle.system_laws.specs.event_lists.Courses.{PARTS, Content, LeftBetween, Reading, WorldContent, part_of}
+use Rattle.recovery_laws.specs.Contents.{CanRecover, regions_in, stored_state}
+use Rattle.event_lists.specs.Courses.{PARTS, Content, LeftBetween, Reading, WorldContent, part_of}
 use Rattle.recovery_laws.specs.layout.Places.{Sizes}
 use Rattle.posix_calls.specs.Operations.{is_client}
 use Rattle.posix_calls.specs.Tree.{State}

@@ -1,8 +1,8 @@
 -- The contents of all parts, by that of the shared medium and of the regions.
 use Rattle.std.proofs.Common.{◌≡◌, ℕ, ◌%◌, ◌<◌, true, List, ◌++◌, refl, ap, sym, ◌∙◌, subst, arith}
 use Rattle.std.specs.Prelude.{drop}
-use Rattle.system_laws.specs.Contents.{CanRecover, log_in, mark_by, regions_in, stored_graph, stored_state}
-use Rattle.system_laws.specs.event_lists.Courses.{Content, WorldContent, part_of}
+use Rattle.recovery_laws.specs.Contents.{CanRecover, log_in, mark_by, regions_in, stored_graph, stored_state}
+use Rattle.event_lists.specs.Courses.{Content, WorldContent, part_of}
 use Rattle.recovery_laws.specs.area_reader.Store.{graph, marks, store_of}
 use Rattle.graph_check.specs.call_effects.ClosedGraph.{nobody, settled_graph}
 use Rattle.graph_check.specs.call_effects.Wholes.{state_of}

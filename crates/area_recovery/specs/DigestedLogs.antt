@@ -17,7 +17,7 @@ use Rattle.graph_check.specs.file_graph.Graph.{Graph}
 use Rattle.log_survey.specs.world_invariant.Logs.{after_clients, after_records}
 use Rattle.posix_calls.specs.Operations.{is_client}
 use Rattle.posix_calls.specs.Tree.{State}
-use Rattle.system_laws.specs.event_lists.Courses.{Content}
+use Rattle.event_lists.specs.Courses.{Content}
 use Rattle.recovery_laws.specs.Inodes.{HasEveryInode}
 use Rattle.area_recovery.specs.Errors.{OnBadLog}
 use Rattle.area_recovery.specs.FoundLogs.{log_by}

@@ -13,5 +13,7 @@ pub mod Settlement
 pub mod DigestedLogs
 pub mod SpelledRecords
 pub mod Refusals
+pub mod FreshContents
+pub mod ReadyParts
 -- Handed on to the crates above, which list only the highest of what they name.
 pub use Rattle.recovery_laws.specs as recovery_laws

@@ -1,24 +1,17 @@
 -- The media beneath an area and regions as parts, and what becomes of them.
-use Rattle.std.specs.Prelude.{ℕ, ◌<◌, List, [], ◌∷◌}
+use Rattle.std.specs.Prelude.{ℕ, ◌<◌, List}
 use Rattle.tier_device.specs.declared.media.Media.{Ghosts}
 use Rattle.tier_device.specs.AfterStop.{Left}
-use Rattle.system_laws.specs.event_lists.Courses.{PARTS, LeftOf, Reading}
+use Rattle.event_lists.specs.Courses.{PARTS, LeftOf, Reading}
 use Rattle.tier_device.specs.Media.{Rose}
 use Rattle.log_survey.specs.update_log.View.{RegionView}
 use Rattle.recovery_laws.specs.batch_journal.View.{JournalView}
-use Rattle.system_laws.specs.event_steps.View.{SeatView}
-use Rattle.system_laws.specs.Parts.{region_of}
 use Rattle.area_recovery.specs.Regions.{IsUntouched, media_of}
 use Rattle.area_recovery.specs.Parts.{PartsView}
 
 -- the media beneath an area and regions
 abbrev pub media_beneath : {M : Type 0} → JournalView M → List (RegionView M) → PartsView M
 media_beneath area regions = record { shared = area.media; regions = media_of regions }
-
--- the regions of seats, one seat after the other: that of even generations and then that of odd ones
-abbrev pub regions_of_seats : {M : Type 0} → List (SeatView M) → List (RegionView M)
-regions_of_seats [] = []
-regions_of_seats (s ∷ ss) = region_of s 0 ∷ region_of s 1 ∷ regions_of_seats ss
 
 module _ {M : Type 0} (device : Ghosts M) where
   -- the clocks of all parts

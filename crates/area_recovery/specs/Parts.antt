@@ -4,7 +4,7 @@ use Rattle.std.specs.Prelude.{ℕ, zero, suc, ◌<◌, List, slice_index_or}
 use Rattle.tier_device.specs.declared.media.Media.{Ghosts}
 use Rattle.tier_device.specs.declared.media.Tier.{Tier}
 use Rattle.tier_device.specs.AfterStop.{AtRest}
-use Rattle.system_laws.specs.event_lists.Courses.{PARTS, WorldContent}
+use Rattle.event_lists.specs.Courses.{PARTS, WorldContent}
 
 -- the shared medium, and those of the sixteen regions in the order of the parts
 pub record PartsView (M : Type 0) : Type 0 where

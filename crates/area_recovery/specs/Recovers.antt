@@ -9,8 +9,8 @@ use Rattle.log_survey.specs.update_log.RecordCounts.{counted_records}
 use Rattle.recovery_laws.specs.layout.declared.marks.Marks.{Marks}
 use Rattle.recovery_laws.specs.layout.declared.marks.Mark.{Mark}
 use Rattle.recovery_laws.specs.layout.Places.{Sizes}
-use Rattle.system_laws.specs.event_lists.Courses.{Content, WorldContent}
-use Rattle.system_laws.specs.Contents.{CanRecover, mark_by, stored_state}
+use Rattle.event_lists.specs.Courses.{Content, WorldContent}
+use Rattle.recovery_laws.specs.Contents.{CanRecover, mark_by, stored_state}
 
 -- what stands in the regions of each client, by the remainder of their generations by two
 abbrev pub Regions : Type 0

@@ -9,15 +9,8 @@ use Rattle.graph_check.specs.call_effects.ClosedGraph.{nobody}
 use Rattle.graph_check.specs.call_effects.Wholes.{IsSound}
 use Rattle.log_survey.specs.world_invariant.Logs.{LogsAreApart}
 use Rattle.recovery_laws.specs.layout.Places.{Sizes}
-use Rattle.system_laws.specs.event_lists.Courses.{PARTS, LeftBetween, Reading, WorldContent}
-use Rattle.system_laws.specs.Contents.{CanRecover, log_in, stored_graph, stored_state}
-use Rattle.system_laws.specs.event_steps.View.{SystemView}
-use Rattle.recovery_laws.specs.layout.declared.marks.Marks.{Marks}
-use Rattle.system_laws.specs.Idle.{IsIdleSystem}
-use Rattle.system_laws.specs.KeptCalls.{no_calls}
-use Rattle.system_laws.specs.Parts.{medium_of}
-use Rattle.system_laws.specs.WorldTree.{world_tree}
-use Rattle.system_laws.specs.WorldView.{WorldView}
+use Rattle.event_lists.specs.Courses.{PARTS, LeftBetween, Reading, WorldContent}
+use Rattle.recovery_laws.specs.Contents.{CanRecover, log_in, stored_graph, stored_state}
 use Rattle.area_recovery.specs.declared.error.RecoveryError.{RecoveryError}
 use Rattle.area_recovery.specs.declared.error.RecoveryError.TheVariants.{DeviceFault}
 use Rattle.area_recovery.specs.DigestedLogs.{CanDigestAll}
@@ -51,19 +44,6 @@ pub record StoresTree (g : Sizes) (c : WorldContent) : Type 0 where
   pub sound : IsSound (stored_graph g c) nobody
 
 module _ {M : Type 0} (device : Ghosts M) where
-  -- nobody uses the system: its kernel and its eight clients are as they are opened, at some marks
-  abbrev pub IsIdle : SystemView M → Type 0
-  IsIdle system = (v : Marks) × IsIdleSystem device system v
-
-  -- The world of what the parts store, settled: nobody uses it, nothing is pending on its parts, and a stop on the way lost nothing.
-  pub record IsRecoveredWorld (old : ℕ → M) (w : WorldView M) : Type 0 where
-    pub tree : world_tree device w ≡ stored_state w.system.kernel.area.geometry (contents_of device old)
-    pub stores : StoresTree w.system.kernel.area.geometry (contents_of device old)
-    pub calls : w.calls ≡ no_calls
-    pub idle : IsIdle w.system
-    pub rest : AreAtRest device (medium_of w.system)
-    pub stop : StaysStored device old (medium_of w.system)
-
   -- The parts are given back, refused for this cause: on the way a stop lost nothing either.
   pub record AreGivenBack (old new : ℕ → M) (e : RecoveryError) : Type 0 where
     pub stop : StaysStored device old new

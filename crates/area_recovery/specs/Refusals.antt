@@ -2,8 +2,8 @@
 use Rattle.std.specs.Prelude.{◌≡◌, ◌⊎◌, ℕ, ◌+◌, ◌-◌, ◌<◌, List, take, true, false}
 use Rattle.recovery_laws.specs.shared_area.AreaOpen.{IsMediumDamage, SpellsNone}
 use Rattle.recovery_laws.specs.layout.declared.error.What.{What}
-use Rattle.system_laws.specs.Contents.{log_in}
-use Rattle.system_laws.specs.event_lists.Courses.{WorldContent, part_of}
+use Rattle.recovery_laws.specs.Contents.{log_in}
+use Rattle.event_lists.specs.Courses.{WorldContent, part_of}
 use Rattle.recovery_laws.specs.area_reader.Format.{IsOpenable}
 use Rattle.recovery_laws.specs.area_reader.Store.{Store, graph, store_of}
 use Rattle.recovery_laws.specs.batch_journal.Volume.{IsVolume}

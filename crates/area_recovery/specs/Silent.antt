@@ -18,7 +18,7 @@ use Rattle.recovery_laws.specs.area_reader.Store.{marks, store_of}
 use Rattle.recovery_laws.specs.digester.MarkMoves.{mark_of}
 use Rattle.recovery_laws.specs.layout.declared.marks.Marks.{Marks}
 use Rattle.posix_calls.specs.Operations.{is_client}
-use Rattle.system_laws.specs.event_lists.Courses.{Content}
+use Rattle.event_lists.specs.Courses.{Content}
 use Rattle.area_recovery.specs.Recovers.{Regions}
 use Rattle.log_survey.specs.update_log.Stage.{IsIdle}
 use Rattle.log_survey.specs.update_log.Moments.{PastStays}

@@ -10,9 +10,9 @@ ghost use Rattle.area_recovery.specs.Recovers.{CountNone};
 ghost use Rattle.area_recovery.specs.Phases.{StaysRecovered, AnswersFaults};
 
 use crate::error::RecoveryError;
+use kernel_fs::{ReclaimError, drop_nameless};
 use recovery_laws::in_shared_area::Shared;
 use std::alloc::Global;
-use system_laws::in_kernel_fs::{ReclaimError, drop_nameless};
 use tier_device::Media;
 
 // Drops the file at an inode, if one without a name stands there.

@@ -84,8 +84,8 @@ fn digest_next<M: Media>(
     log.invariant();
     marks_can_be_written(area.marks());
     moved_mark_leaves_the_rest();
-    let chunk = prepare(alloc, log)?;
-    digest_chunk(alloc, area, log, &chunk)
+    let mut chunk = prepare(alloc, log)?;
+    digest_chunk(alloc, area, log, &mut chunk)
 }
 
 // Why a recovery is refused where a digest is of a client's log whose first `from` records are none that count; `before` that count stand in another region.

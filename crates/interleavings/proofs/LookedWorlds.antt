@@ -24,7 +24,7 @@ use Rattle.system_laws.specs.world_invariant.Machine.{Machine}
 use Rattle.system_laws.specs.world_invariant.World.{World}
 use Rattle.system_laws.specs.event_steps.View.{SeatView, SystemView}
 use Rattle.system_laws.specs.event_lists.Courses.{Content}
-use Rattle.system_laws.specs.Contents.{mark_by}
+use Rattle.system_laws.specs.recovery_laws.Contents.{mark_by}
 use Rattle.system_laws.specs.Leaves.{KernelLeaves}
 use Rattle.system_laws.specs.Relation.{Cut, IsWorld, IsWorldOf, SpellsShared, machine_of}
 use Rattle.system_laws.specs.Relation as cuts

@@ -7,7 +7,7 @@ use Rattle.std.specs.Prelude.{Result, Ok, Err, OnOk}
 use Rattle.std.specs.FinMap as fin
 use Rattle.std.specs.Cmp.Lexicographic.{nat_list_cmp_total}
 use Rattle.posix_calls.specs.Content.{Entries, with_bytes}
-use Rattle.system_laws.specs.file_graph.Graph.{Graph, Node, DirBody, FileBody, after_effect, after_effects, empty_body, is_among, set_node, subject_after, subjects}
+use Rattle.system_laws.specs.file_graph.Graph.{Graph, Node, DirBody, FileBody, acted_graph, after_effect, after_effects, empty_body, is_among, set_node, subject_after, subjects}
 use Rattle.system_laws.specs.file_graph.declared.effect.Kind.{Kind}
 use Rattle.system_laws.specs.file_graph.declared.effect.Effect.{Effect}
 use Rattle.system_laws.specs.file_graph.declared.effect.Effect.TheVariants as effect
@@ -26,13 +26,25 @@ acted : (f : Option Node → Option Node) (o x : Option Node) (b : Bool) → con
 acted f o x true = refl
 acted f o x false = refl
 
+-- an effect on one inode is no Swap
+acts_alone : (g : Graph) (i : ℕ) (e : Effect) → subjects e ≡ i ∷ [] → after_effect g e ≡ acted_graph g e
+acts_alone g i (effect.Make j k) alone = refl
+acts_alone g i (effect.Enter d j k name) alone = refl
+acts_alone g i (effect.Leave d name) alone = refl
+acts_alone g i (effect.Names j n) alone = refl
+acts_alone g i (effect.Size j size) alone = refl
+acts_alone g i (effect.Bytes j at new) alone = refl
+acts_alone g i (effect.Drop j) alone = refl
+acts_alone g i (effect.Swap d a e b) alone = let two_are_one : 2 ≡ 1 = ap length alone in absurd (omega (arith, two_are_one))
+
 -- an effect on an inode acts on what was put there
 pub acts_on_put : (g : Graph) (i : ℕ) (o : Option Node) (e : Effect) → subjects e ≡ i ∷ [] → after_effect (set_node g i o) e ≡ set_node g i (subject_after e o)
 acts_on_put g i o e alone = λ t j. at j t
   where
     at : (j : ℕ) → after_effect (set_node g i o) e j ≡ set_node g i (subject_after e o) j
     at j =
-        ap (λ (is : List ℕ). cond (is_among j is) (subject_after e (set_node g i o j)) (set_node g i o j)) alone
+        ap (λ (h : Graph). h j) (acts_alone (set_node g i o) i e alone)
+        ∙ ap (λ (is : List ℕ). cond (is_among j is) (subject_after e (set_node g i o j)) (set_node g i o j)) alone
         ∙ ap (λ (b : Bool). cond (b || false) (subject_after e (set_node g i o j)) (set_node g i o j)) (flipped i j)
         ∙ acted (subject_after e) o (g j) (j == i)
 

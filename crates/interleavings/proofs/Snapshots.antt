@@ -24,7 +24,7 @@ use Rattle.system_laws.specs.log_record.declared.format.Record.{Record}
 use Rattle.system_laws.specs.world_invariant.Limits.{AreWithin, IsWithin}
 use Rattle.system_laws.specs.world_invariant.Logs.{after_clients, after_records}
 use Rattle.system_laws.specs.event_steps.View.{HasSeat, SeatView, SystemView, done_of, seat_of}
-use Rattle.system_laws.specs.Contents.{mark_by}
+use Rattle.system_laws.specs.recovery_laws.Contents.{mark_by}
 use Rattle.system_laws.specs.Leaves.{SystemLeaves}
 use Rattle.system_laws.specs.Relation.{IsWorld}
 use Rattle.system_laws.specs.WorldTree.{log_by, log_of, whole_graph, world_tree}

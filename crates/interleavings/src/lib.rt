@@ -83,5 +83,5 @@ pub mod in_system_laws {
 
 /// Of `update_log`, what the crates above name.
 pub mod in_update_log {
-    pub use system_laws::in_update_log::{REGION_SIZE, Region, RegionError, WipeProgress};
+    pub use system_laws::in_update_log::{REGION_SIZE, Region};
 }

@@ -4,7 +4,7 @@ ghost use Rattle.system_laws.specs.News.{news};
 ghost use Rattle.system_laws.specs.Moves.{EventMoves};
 ghost use Rattle.system_laws.specs.Clocks.{clocks_of, left_of};
 ghost use Rattle.system_laws.specs.Steps.{MakesOrStays};
-ghost use Rattle.system_laws.specs.Contents.{CanRecover, stored_state};
+ghost use Rattle.system_laws.specs.recovery_laws.Contents.{CanRecover, stored_state};
 ghost use Rattle.system_laws.specs.WorldTree.{world_tree};
 ghost use Rattle.system_laws.specs.WorldView.{calls_of};
 

@@ -27,6 +27,12 @@ alone_inode j is i there = elim (or_cases (eqb j i) false there) [
   | inr never ↦ absurd (false≢true never)
 ]
 
+pub both_inodes : (is js : List ℕ) → AreInodes is → AreInodes js → AreInodes (is ++ js)
+both_inodes is js first second i there = elim (or_cases (is_among i is) (is_among i js) (sym (list_any-append (λ j. eqb j i) is js) ∙ there)) [
+  | inl h ↦ first i h
+  | inr h ↦ second i h
+]
+
 subject_inode : (e : Effect) → FitsLimits e → AreInodes (subjects e)
 subject_inode (effect.Make i k) fit = alone_inode i fit
 subject_inode (effect.Enter d i k name) fit = alone_inode d fit.0
@@ -35,12 +41,7 @@ subject_inode (effect.Names i n) fit = alone_inode i fit.0
 subject_inode (effect.Size i size) fit = alone_inode i fit.0
 subject_inode (effect.Bytes i at new) fit = alone_inode i fit.0
 subject_inode (effect.Drop i) fit = alone_inode i fit
-
-pub both_inodes : (is js : List ℕ) → AreInodes is → AreInodes js → AreInodes (is ++ js)
-both_inodes is js first second i there = elim (or_cases (is_among i is) (is_among i js) (sym (list_any-append (λ j. eqb j i) is js) ∙ there)) [
-  | inl h ↦ first i h
-  | inr h ↦ second i h
-]
+subject_inode (effect.Swap d a e b) fit = both_inodes (d ∷ []) (e ∷ []) (alone_inode d fit.0) (alone_inode e fit.2)
 
 -- ---- what is read
 

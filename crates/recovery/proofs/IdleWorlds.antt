@@ -27,7 +27,7 @@ use Rattle.interleavings.specs.layout.declared.marks.Marks.{Marks}
 use Rattle.tier_device.specs.declared.media.Media.{Ghosts}
 use Rattle.tier_device.specs.declared.media.Tier.{Tier}
 use Rattle.interleavings.specs.update_log.View.{RegionView}
-use Rattle.interleavings.specs.system_laws.Contents.{mark_by}
+use Rattle.area_recovery.specs.recovery_laws.Contents.{mark_by}
 use Rattle.interleavings.specs.system_laws.Idle.{IsIdleKernel, IsIdleSeat, IsIdleSystem}
 use Rattle.interleavings.specs.system_laws.WorldTree.{away_records, log_by, log_of, opened_by, opened_in, records_behind, whole_graph, world_tree}
 use Rattle.interleavings.specs.system_laws.WorldView.{WorldView}
@@ -37,7 +37,8 @@ use Rattle.interleavings.specs.digester.MarkMoves.{mark_of}
 use Rattle.posix_calls.specs.Operations.{is_client}
 use Rattle.posix_calls.specs.Tree.{Descriptors}
 use Rattle.interleavings.proofs.world_invariant_lemmas.Owners.{is_high, is_low}
-use Rattle.recovery.specs.Assembly.{AreOpenedSeats, AreReadyRegions, IsReadyArea}
+use Rattle.recovery.specs.Assembly.{AreOpenedSeats}
+use Rattle.area_recovery.specs.ReadyParts.{AreReadyRegions, IsReadyArea}
 use Rattle.area_recovery.specs.Regions.{IsUntouched}
 use Rattle.recovery.proofs.OpenedSeats.{HasOpened, as_long, opened_at}
 use Rattle.area_recovery.proofs.Recovering.{no_records_stay, same_graph}

@@ -17,10 +17,10 @@ use Rattle.interleavings.specs.system_laws.Parts.{region_beside, region_of}
 use Rattle.area_recovery.specs.declared.error.RecoveryError.{RecoveryError}
 use Rattle.area_recovery.specs.declared.error.RecoveryError.TheVariants.{DeviceFault}
 use Rattle.recovery.specs.Assembly.{AreFresh, AreOnlyRead, AreOpenedSeats, AreWipedTo, IsOpenedSeat, RefusesSeat, SeatsLast, generation_at}
-use Rattle.area_recovery.specs.PartMedia.{regions_of_seats}
+use Rattle.recovery.specs.SeatRegions.{regions_of_seats}
 use Rattle.area_recovery.specs.Regions.{HaveRisen, IsUntouched, SomeZip, media_of}
 use Rattle.area_recovery.specs.Silent.{IsWiped, wiped_name}
-use Rattle.recovery.proofs.OpenedLists.{some_left, zip_append}
+use Rattle.area_recovery.proofs.OpenedLists.{some_left, zip_append}
 use Rattle.recovery.proofs.SystemParts.{parity}
 
 -- what holds of any answer holds of a refusal

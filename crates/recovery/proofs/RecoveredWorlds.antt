@@ -13,7 +13,7 @@ use Rattle.interleavings.specs.area_reader.Format.{IsOpenable}
 use Rattle.interleavings.specs.area_reader.Store.{disk, graph, marks}
 use Rattle.interleavings.specs.layout.declared.marks.Mark.{Mark}
 use Rattle.interleavings.specs.layout.declared.marks.Marks.{Marks}
-use Rattle.interleavings.specs.system_laws.Contents.{log_in, regions_in, stored_state}
+use Rattle.area_recovery.specs.recovery_laws.Contents.{log_in, regions_in, stored_state}
 use Rattle.interleavings.specs.system_laws.Idle.{IsIdleSystem}
 use Rattle.interleavings.specs.system_laws.KeptCalls.{no_calls}
 use Rattle.interleavings.specs.system_laws.Parts.{medium_of}
@@ -27,11 +27,12 @@ use Rattle.interleavings.specs.layout.Places.{Sizes}
 use Rattle.posix_calls.specs.Operations.{is_client}
 use Rattle.area_recovery.specs.declared.error.RecoveryError.{RecoveryError}
 use Rattle.area_recovery.specs.declared.error.RecoveryError.TheVariants.{DeviceFault}
-use Rattle.recovery.specs.Assembly.{AreReadyRegions, IsReadyArea}
+use Rattle.area_recovery.specs.ReadyParts.{AreReadyRegions, IsReadyArea}
 use Rattle.area_recovery.specs.FaultOrMemory.{IsFaultOrMemory}
 use Rattle.area_recovery.specs.Parts.{contents_of, part_medium}
 use Rattle.area_recovery.specs.PartMedia.{AreUntouched, SomeRose, media_beneath}
-use Rattle.area_recovery.specs.RecoveryStops.{AreGivenBack, IsRecoveredWorld, StoresTree}
+use Rattle.area_recovery.specs.RecoveryStops.{AreGivenBack, StoresTree}
+use Rattle.recovery.specs.WorldRecovery.{IsRecoveredWorld}
 use Rattle.area_recovery.specs.Regions.{HaveRisen, IsOnlyRead, REGIONS, media_of, regions_read}
 use Rattle.area_recovery.specs.FoundLogs.{log_by}
 use Rattle.area_recovery.specs.Refusals.{IsStoredCause}
@@ -45,7 +46,7 @@ use Rattle.area_recovery.proofs.SilentRegions.{bounds_client}
 use Rattle.area_recovery.proofs.Staying.{SeenNow}
 use Rattle.area_recovery.proofs.StoredStays.{KeepsLengths}
 use Rattle.area_recovery.proofs.RefusalCauses.{cause_same}
-use Rattle.recovery.proofs.StoredTrees.{log_found, state_found, tree_is_stored}
+use Rattle.area_recovery.proofs.StoredTrees.{log_found, state_found, tree_is_stored}
 use Rattle.area_recovery.proofs.WholeContents.{whole_recovers}
 use Rattle.area_recovery.proofs.WipedRegions.{some_at}
 

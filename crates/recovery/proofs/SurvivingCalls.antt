@@ -2,7 +2,7 @@
 use Rattle.std.proofs.Common.{◌≡◌, ◌+◌, List, ap, sym, ◌∙◌, subst}
 use Rattle.std.specs.Prelude.{take, Result, Ok, Err, IfOk, IfErr}
 use Rattle.tier_device.specs.declared.media.Media.{Ghosts}
-use Rattle.interleavings.specs.system_laws.Contents.{CanRecover, stored_state}
+use Rattle.area_recovery.specs.recovery_laws.Contents.{CanRecover, stored_state}
 use Rattle.interleavings.specs.system_laws.News.{news}
 use Rattle.interleavings.specs.system_laws.Steps.{recoverable}
 use Rattle.interleavings.specs.system_laws.WorldTree.{world_tree}

@@ -12,8 +12,10 @@ use Rattle.tier_device.specs.Media.{Rose}
 use Rattle.interleavings.specs.update_log.View.{RegionView}
 use Rattle.interleavings.specs.system_laws.Parts.{medium_of, region_beside, region_medium, region_of}
 use Rattle.area_recovery.specs.Parts.{PartsView, part_medium}
-use Rattle.area_recovery.specs.PartMedia.{AreUntouched, SomeRose, regions_of_seats}
+use Rattle.area_recovery.specs.PartMedia.{AreUntouched, SomeRose}
+use Rattle.recovery.specs.SeatRegions.{regions_of_seats}
 use Rattle.area_recovery.specs.Regions.{HaveRisen, IsUntouched, media_of}
+use Rattle.area_recovery.proofs.RisenFaults.{regions_rose}
 
 odd_is : (r : ℕ) → r < 2 → (r == 1) ≡ not (r == 0)
 odd_is zero low = refl
@@ -188,23 +190,6 @@ module _ {M : Type 0} (device : Ghosts M) where
   media_untouched (v ∷ vs) [] h = elim h [ ]
   media_untouched (v ∷ vs) (w ∷ ws) h = (h.0, media_untouched vs ws h.1)
 
-  -- ---- parts of which one has failed
-
-  abbrev RoseAt : List M → List M → M → M → Type 0
-  RoseAt xs ys d e = (k : ℕ) × (k < length xs) × Rose (device.faults (slice_index_or xs k d)) (device.faults (slice_index_or ys k e))
-
-  rose_at : (xs ys : List M) (d e : M) → HaveRisen device xs ys → RoseAt xs ys d e
-  rose_at [] ys d e h = elim h [ ]
-  rose_at (x ∷ xs) [] d e h = elim h [ ]
-  rose_at (x ∷ xs) (y ∷ ys) d e (inl here) = (0, omega arith, here)
-  rose_at (x ∷ xs) (y ∷ ys) d e (inr later) = let r = rose_at xs ys d e later in let low : r.0 < length xs = r.1 in (suc r.0, omega (arith, low), r.2)
-
-  pub some_part_rose : (old new : PartsView M) → length old.regions ≡ 16 → HaveRisen device old.regions new.regions → SomeRose device (part_medium old) (part_medium new)
-  some_part_rose old new all h = let r = rose_at old.regions new.regions old.shared new.shared h in let low : r.0 < length old.regions = r.1 in record { part = suc r.0; low = omega (arith, low, all); rose = r.2 }
-
-  pub first_part_rose : (old new : PartsView M) → Rose (device.faults old.shared) (device.faults new.shared) → SomeRose device (part_medium old) (part_medium new)
-  first_part_rose old new h = record { part = zero; low = omega arith; rose = h }
-
 -- ---- the parts that come out again
 
 module _ {M : Type 0} (device : Ghosts M) (shared : M) (regions : List (RegionView M)) where
@@ -227,11 +212,11 @@ module _ {M : Type 0} (device : Ghosts M) (shared : M) (regions : List (RegionVi
   system_untouched w first read p low = subst (λ (m : M). IsUntouched device (part_medium beneath p) m) (parts_of_system w p) (read_back w.kernel.area.media (regions_of_seats w.seats) first read p low)
 
   pub shared_rose : (parts : PartsView M) (medium : M) (after : List (RegionView M)) → parts ≡ record { shared = medium; regions = media_of after } → Rose (device.faults shared) (device.faults medium) → SomeRose device (part_medium beneath) (part_medium parts)
-  shared_rose parts medium after is rose = subst (λ (x : PartsView M). SomeRose device (part_medium beneath) (part_medium x)) (sym is) (first_part_rose device beneath (parts_of medium after) rose)
+  shared_rose parts medium after is rose = subst (λ (x : PartsView M). SomeRose device (part_medium beneath) (part_medium x)) (sym is) (record { part = zero; low = omega arith; rose = rose })
 
   pub region_rose : (parts : PartsView M) (medium : M) (after : List (RegionView M)) → parts ≡ record { shared = medium; regions = media_of after } → length regions ≡ 16 → HaveRisen device (media_of regions) (media_of after) → SomeRose device (part_medium beneath) (part_medium parts)
   region_rose parts medium after is all rose =
       subst
       (λ (x : PartsView M). SomeRose device (part_medium beneath) (part_medium x))
       (sym is)
-      (some_part_rose device beneath (parts_of medium after) (length-map regions (λ (v : RegionView M). v.media) ∙ all) rose)
+      (regions_rose device shared (media_of regions) medium (media_of after) (length-map regions (λ (v : RegionView M). v.media) ∙ all) rose)

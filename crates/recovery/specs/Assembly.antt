@@ -23,19 +23,6 @@ use Rattle.area_recovery.specs.FaultOrMemory.{IsFaultOrMemory}
 use Rattle.area_recovery.specs.Regions.{REGIONS, IsUntouched}
 use Rattle.area_recovery.specs.Silent.{IsWiped, wiped_name}
 
-module _ {M : Type 0} (device : Ghosts M) where
-  -- The area goes on, its graph is sound where nobody has a file open, and each mark stands before a region.
-  pub record IsReadyArea (area : JournalView M) : Type 0 where
-    pub going : area.failed ≡ false
-    pub sound : IsSound (graph area.geometry (disk device area)) nobody
-    pub before : (v : Marks) (c : ℕ) → marks (disk device area) ≡ Some v → is_client c ≡ true → (mark_of v c).done ≡ 0
-
-  -- There are sixteen regions, each as long as a region and wiped: of a client to the generation of its mark and to the next.
-  pub record AreReadyRegions (area : JournalView M) (regions : List (RegionView M)) : Type 0 where
-    pub all : length regions ≡ REGIONS
-    pub sizes : (k : ℕ) (r : RegionView M) → slice_get regions k ≡ Some r → HasSize (device.seen r.media)
-    pub wiped : (v : Marks) (k : ℕ) (r : RegionView M) → marks (disk device area) ≡ Some v → slice_get regions k ≡ Some r → IsWiped device (wiped_name (mark_of v (k / 2 + 1)).generation (k % 2)) r
-
 -- the generation of the mark of the client at a place among the eight
 abbrev pub generation_at : Marks → ℕ → ℕ
 generation_at v place = (mark_of v (place + 1)).generation

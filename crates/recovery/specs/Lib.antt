@@ -1,9 +1,11 @@
 pub mod Assembly
 pub mod Survival
-pub mod FreshContents
+pub mod SeatRegions
+pub mod WorldRecovery
 -- Handed on to the crates above, which list only the highest of what they name.
 pub use Rattle.area_recovery.specs as area_recovery
 pub use Rattle.interleavings.specs.event_lists
 pub use Rattle.interleavings.specs.layout
+pub use Rattle.area_recovery.specs.recovery_laws
 pub use Rattle.interleavings.specs.system_laws
 pub use Rattle.interleavings.specs.update_log

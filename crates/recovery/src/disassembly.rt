@@ -5,11 +5,11 @@ ghost use Rattle.std.specs.Vec.{vec_len, vec_capacity};
 ghost use Rattle.interleavings.specs.system_laws.Parts.{medium_of, region_of};
 ghost use Rattle.interleavings.specs.event_lists.Courses.{PARTS};
 ghost use Rattle.area_recovery.specs.Parts.{part_medium};
-ghost use Rattle.area_recovery.specs.PartMedia.{regions_of_seats};
+ghost use Rattle.recovery.specs.SeatRegions.{regions_of_seats};
 ghost use Rattle.area_recovery.specs.Regions.{REGIONS, media_of};
 
 use crate::parts::{Parts, REGIONS};
-use crate::region_list::{hand_back, put_last};
+use area_recovery::{hand_back, put_last};
 use interleavings::World;
 use interleavings::in_event_steps::ClientSlot;
 use interleavings::in_update_log::Region;

@@ -1,24 +1,18 @@
 //! A world is made of what its parts hold: `format` makes the empty one, `recover` the one that any contents store, and `take_apart` gives
 //! the media of one back.
 //!
-//! `recover` opens the shared medium (`area_open`) and the sixteen regions (`region_list`), brings the records that count into the area (the crate
-//! `area_recovery`), wipes the regions (`region_wipes`), and opens kernel and clients over them (`assembly`). Each of these phases says of every
-//! content that a stop in it may leave that it is recovered to the same state (`Recovers.antt` and `Phases.antt` of `area_recovery`).
+//! `recover` opens the shared medium and the sixteen regions, brings the records that count into the area, wipes the regions (all this in the crate
+//! `area_recovery`), and opens kernel and clients over them (`assembly`). Each of these phases says of every content that a stop in it may leave that
+//! it is recovered to the same state (`Recovers.antt` and `Phases.antt` of `area_recovery`).
 //!
 //! `recover_after_stop` is what all of this is for: every answered call survives (`specs/Survival.antt`).
 #![tactic(auto)]
 
-mod area_open;
 mod assembly;
 mod disassembly;
 mod fresh_world;
-mod fresh_writes;
 mod part_recovery;
 mod parts;
-mod region_list;
-mod region_wipes;
-mod silent_laws;
-mod size_check;
 mod survival;
 
 pub use disassembly::take_apart;
@@ -50,6 +44,11 @@ pub mod in_layout {
 /// Of `record_validation`, what the crates above name.
 pub mod in_record_validation {
     pub use interleavings::in_record_validation::NodeSummary;
+}
+
+/// Of `recovery_laws`, what the crates above name.
+pub mod in_recovery_laws {
+    pub use area_recovery::in_recovery_laws::tier_lens;
 }
 
 /// Of `shared_area`, what the crates above name.

@@ -4,7 +4,7 @@ ghost use Rattle.std.specs.Prelude.{◌≡◌, ◌≢◌, ◌≤◌, [], false, 
 ghost use Rattle.std.specs.Vec.{vec_capacity};
 ghost use Rattle.interleavings.specs.area_reader.Store.{disk};
 ghost use Rattle.interleavings.specs.batch_journal.Volume.{IsVolume};
-ghost use Rattle.interleavings.specs.system_laws.Contents.{CanRecover, log_in, stored_state};
+ghost use Rattle.area_recovery.specs.recovery_laws.Contents.{CanRecover, log_in, stored_state};
 ghost use Rattle.interleavings.specs.system_laws.KeptCalls.{no_calls};
 ghost use Rattle.interleavings.specs.system_laws.Parts.{medium_of};
 ghost use Rattle.interleavings.specs.system_laws.WorldTree.{world_tree};
@@ -14,17 +14,17 @@ ghost use Rattle.area_recovery.specs.Errors.{OnBadLog, OnDamage};
 ghost use Rattle.area_recovery.specs.FaultOrMemory.{IsFaultOrMemory};
 ghost use Rattle.area_recovery.specs.Parts.{AreAtRest, contents_of, part_medium};
 ghost use Rattle.area_recovery.specs.PartMedia.{SomeRose, media_beneath};
-ghost use Rattle.area_recovery.specs.RecoveryStops.{AreGivenBack, IsIdle, IsRecoveredWorld, StaysStored, StoresTree};
+ghost use Rattle.area_recovery.specs.RecoveryStops.{AreGivenBack, StaysStored, StoresTree};
+ghost use Rattle.recovery.specs.WorldRecovery.{IsIdle, IsRecoveredWorld};
 ghost use Rattle.area_recovery.specs.Refusals.{HaveRegionSizes, IsCause, IsStoredCause, StoresBadLog, StoresDamage};
 ghost use Rattle.area_recovery.specs.Regions.{REGIONS};
 ghost use Rattle.area_recovery.specs.Settlement.{AreOpenRegions};
 
-use crate::area_open::open_area;
 use crate::assembly::assemble;
 use crate::parts::Parts;
-use crate::region_list::{hand_back, reopen_regions};
-use crate::region_wipes::wipe_regions;
-use area_recovery::{RecoveryError, settle_area};
+use area_recovery::{
+    RecoveryError, hand_back, open_area, reopen_regions, settle_area, wipe_regions,
+};
 use interleavings::World;
 use interleavings::in_shared_area::Shared;
 use interleavings::in_update_log::Region;

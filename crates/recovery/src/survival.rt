@@ -1,7 +1,7 @@
 //! Every answered call survives.
 
 ghost use Rattle.std.specs.Prelude.{◌≡◌, ◌≢◌, IfErr, IfOk, OnErr};
-ghost use Rattle.interleavings.specs.system_laws.Contents.{CanRecover};
+ghost use Rattle.area_recovery.specs.recovery_laws.Contents.{CanRecover};
 ghost use Rattle.interleavings.specs.system_laws.Steps.{recoverable};
 ghost use Rattle.interleavings.specs.event_lists.Plays.{Plays};
 ghost use Rattle.interleavings.specs.layout.Places.{Sizes};
@@ -9,7 +9,8 @@ ghost use Rattle.area_recovery.specs.declared.error.RecoveryError.TheVariants.{D
 ghost use Rattle.area_recovery.specs.FaultOrMemory.{IsFaultOrMemory};
 ghost use Rattle.area_recovery.specs.Parts.{AreAtRest, contents_of, part_medium};
 ghost use Rattle.area_recovery.specs.PartMedia.{SomeRose};
-ghost use Rattle.area_recovery.specs.RecoveryStops.{IsRecoveredWorld, StaysStored};
+ghost use Rattle.area_recovery.specs.RecoveryStops.{StaysStored};
+ghost use Rattle.recovery.specs.WorldRecovery.{IsRecoveredWorld};
 ghost use Rattle.recovery.specs.Survival.{Survives};
 
 use crate::part_recovery::recover;

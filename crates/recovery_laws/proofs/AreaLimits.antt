@@ -5,6 +5,7 @@ use Rattle.std.specs.FinMap as fin
 use Rattle.std.specs.List.{list_all}
 use Rattle.std.proofs.lemmas.Bool.{cases_Bool, cond-false, and_parts, leb-true}
 use Rattle.posix_calls.specs.Name.{is_name}
+use Rattle.posix_calls.specs.declared.limits.TheConstants.{MAX_FILE}
 use Rattle.layout.specs.file_graph.declared.effect.Kind.{Kind}
 use Rattle.layout.specs.Places.{Sizes, is_inode}
 use Rattle.layout.specs.Slot.{slot_of, fits_slot, is_root_block, roots_apart}
@@ -81,8 +82,8 @@ module _ (g : Sizes) (s : Store) (i : ℕ) where
       let d = and_parts _ (is_root_block g slow) c.0 in
       let f = and_parts _ (is_root_block g block) d.0 in
       let h = and_parts _ (is_root_block g fast) f.0 in
-      let q = and_parts (nat_le names 1000) (nat_le size 1048576) h.0 in
-      let most : size ≤ 1048576 = leb-true size 1048576 q.1 in
+      let q = and_parts (nat_le names 1000) (nat_le size MAX_FILE) h.0 in
+      let most : size ≤ MAX_FILE = leb-true size MAX_FILE q.1 in
       let n = number_is i number in
       record { low = n.low; high = n.high; names = leb-true names 1000 q.0; body = (let long = length_file (logical_block g s i) size in omega (arith, long, most)) }
   node_within number (slots.Directory names entries touch root) is fits consistent =

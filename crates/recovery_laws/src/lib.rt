@@ -9,6 +9,7 @@ mod fresh_laws;
 mod fresh_region;
 mod record_laws;
 mod region_laws;
+mod tier_lens;
 mod zero_fill;
 
 pub use area_laws::openable_area_is_within_limits;
@@ -17,6 +18,7 @@ pub use fresh_laws::fresh_area_opens;
 pub use fresh_region::empty_region;
 pub use record_laws::{paid_records_are_covered, recoverable_records_are_covered};
 pub use region_laws::fresh_region_is_empty;
+pub use tier_lens::tier_lens;
 
 /// Of `area_reader`, what the crates above name.
 pub mod in_area_reader {
@@ -40,10 +42,17 @@ pub mod in_graph_change {
 
 /// Of `layout`, what the crates above name.
 pub mod in_layout {
-    pub use layout::{CLIENTS, FIRST_SLOT_BLOCK, Mark, Marks, SLOTS_IN_BLOCK, What};
+    pub use layout::{
+        BLOCK, CLIENTS, FIRST_SLOT_BLOCK, Geometry, Mark, Marks, SLOTS_IN_BLOCK, What,
+    };
 }
 
 /// Of `shared_area`, what the crates above name.
 pub mod in_shared_area {
     pub use digester::in_shared_area::Shared;
+}
+
+/// Of `update_log`, what the crates above name.
+pub mod in_update_log {
+    pub use update_log::{REGION_SIZE, Region, RegionError, WipeProgress};
 }

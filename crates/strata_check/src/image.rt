@@ -7,7 +7,7 @@ use std::alloc::{AllocError, Global};
 use tier_device::MemMedia;
 use world_files::in_layout::Geometry;
 use world_files::in_recovery::REGIONS;
-use world_files::tier_lens;
+use world_files::in_recovery_laws::tier_lens;
 
 /// The bytes of the tiers of the shared medium, and those of the regions, of client after client, the one of even generations first.
 #[derive(Clone, Copy)]

@@ -148,10 +148,10 @@ fn digest_next<M: Media + Drop, R: Wait, G: GatePoint>(
     ensures refused { IfErr result (λ why. RefusesLog M.Media why region.new) }
 {
     match region.prepare(alloc) {
-        Ok(chunk) => {
+        Ok(mut chunk) => {
             gate.pass();
             let mut kernel = shared.lock(rt);
-            digest_chunk(&mut *kernel, region, &chunk)
+            digest_chunk(&mut *kernel, region, &mut chunk)
         }
         Err(error) => Err(RegionRefusal::Digest(KernelError::Refused(error))),
     }
@@ -160,11 +160,11 @@ fn digest_next<M: Media + Drop, R: Wait, G: GatePoint>(
 fn digest_chunk<M: Media + Drop>(
     kernel: &mut Kernel<M>,
     region: &mut SealedRegion<M>,
-    chunk: &Chunk,
+    chunk: &mut Chunk,
 ) -> Result<(), RegionRefusal>
     requires read { region.old.read ≡ true }
     requires some { HasUndigested (log_of M.Media region.old) }
-    requires chunk { IsChunkOf (log_of M.Media region.old) chunk.now }
+    requires chunk { IsChunkOf (log_of M.Media region.old) chunk.old }
     ensures more { region.old.done ≤ region.new.done }
     ensures rest { region.new ≡ record region.old { done = region.new.done } }
     ensures refused { IfErr result (λ why. RefusesLog M.Media why region.new) }
@@ -182,7 +182,7 @@ fn digest_chunk<M: Media + Drop>(
 
 // Drops the files that lost their last name by a chunk, where nobody has pinned them.
 fn reclaim_nameless<M: Media>(kernel: &mut Kernel<M>, chunk: &Chunk) {
-    for (inode, change) in &chunk.change.nodes {
+    for (inode, change) in &chunk.change.change.nodes {
         if change.names == Some(0) {
             let _ = kernel.reclaim(*inode);
         }

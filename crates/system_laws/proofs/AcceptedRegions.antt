@@ -18,7 +18,7 @@ use Rattle.event_steps.specs.Sound.{IsAwayFrom, number_of}
 use Rattle.event_steps.specs.View.{SeatView}
 use Rattle.system_laws.specs.Parts.{region_of}
 use Rattle.system_laws.specs.Relation.{IsClientOf, StandsMarked, accepted_of, machine_of}
-use Rattle.system_laws.specs.Contents.{mark_by}
+use Rattle.recovery_laws.specs.Contents.{mark_by}
 use Rattle.system_laws.proofs.AwayRegions.{MediumStays, itself, read_stays, same_records, with_away}
 use Rattle.system_laws.proofs.ClientMoves.{StandsFor}
 use Rattle.system_laws.proofs.Frame.{at_else, at_there}

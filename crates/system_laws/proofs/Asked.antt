@@ -26,7 +26,7 @@ use Rattle.system_laws.specs.Parts.{medium_of, region_medium, region_of}
 use Rattle.system_laws.specs.Clocks.{clocks_of, left_of}
 use Rattle.system_laws.specs.Relation.{Cut, IsClientOf, IsWorldOf, SpellsAfter, SpellsShared, StandsMarked, machine_of}
 use Rattle.system_laws.specs.Steps.{IsBegunIn, IsStep}
-use Rattle.system_laws.specs.Contents.{mark_by}
+use Rattle.recovery_laws.specs.Contents.{mark_by}
 use Rattle.system_laws.specs.WorldTree.{world_tree}
 use Rattle.system_laws.specs.WorldView.{WorldView, calls_of}
 use Rattle.system_laws.proofs.Frame.{at_else, at_there}

@@ -26,7 +26,7 @@ use Rattle.system_laws.specs.Parts.{medium_of, region_medium, region_of}
 use Rattle.system_laws.specs.Clocks.{clocks_of, left_of}
 use Rattle.system_laws.specs.Relation.{Cut, IsClientOf}
 use Rattle.system_laws.specs.Steps.{IsBegunIn, IsStep}
-use Rattle.system_laws.specs.Contents.{CanRecover, stored_state}
+use Rattle.recovery_laws.specs.Contents.{CanRecover, stored_state}
 use Rattle.system_laws.specs.WorldView.{WorldView, calls_of}
 use Rattle.system_laws.proofs.Given.{Given}
 use Rattle.system_laws.proofs.KernelMoves.{SpellsOrAfter}

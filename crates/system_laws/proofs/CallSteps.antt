@@ -40,7 +40,7 @@ use Rattle.system_laws.specs.News.{after_step, news}
 use Rattle.system_laws.specs.Parts.{region_of}
 use Rattle.system_laws.specs.Relation.{IsBegunAs, IsClientOf, StandsMarked, accepted_of, first_generation, held_of, status_of}
 use Rattle.system_laws.specs.Steps.{IsBegunIn, IsStep}
-use Rattle.system_laws.specs.Contents.{mark_by}
+use Rattle.recovery_laws.specs.Contents.{mark_by}
 use Rattle.system_laws.specs.WorldView.{WorldView, calls_of}
 use Rattle.system_laws.proofs.ClientMoves.{StandsFor, client_moves, kernel_stands, with_part}
 use Rattle.system_laws.proofs.Frame.{KeepsSealed}

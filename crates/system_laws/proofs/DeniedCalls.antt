@@ -22,7 +22,7 @@ use Rattle.event_steps.specs.declared.outcome.Outcome.TheVariants.{Reply}
 use Rattle.system_laws.specs.News.{news}
 use Rattle.system_laws.specs.Relation.{IsClientOf, StandsMarked}
 use Rattle.system_laws.specs.Steps.{IsBegunIn, IsStep}
-use Rattle.system_laws.specs.Contents.{mark_by}
+use Rattle.recovery_laws.specs.Contents.{mark_by}
 use Rattle.system_laws.specs.WorldView.{WorldView, calls_of}
 use Rattle.system_laws.proofs.Given.{Given}
 use Rattle.system_laws.proofs.Seats.{client_is, same_seat}

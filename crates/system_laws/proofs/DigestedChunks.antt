@@ -32,7 +32,7 @@ use Rattle.event_steps.specs.View.{SeatView}
 use Rattle.event_lists.specs.Courses.{Content}
 use Rattle.system_laws.specs.Relation.{Cut, IsClientOf, SpellsAfter, SpellsShared, StandsMarked, marks_digested}
 use Rattle.system_laws.specs.Relation as cuts
-use Rattle.system_laws.specs.Contents.{mark_by}
+use Rattle.recovery_laws.specs.Contents.{mark_by}
 use Rattle.system_laws.proofs.AwayRegions.{with_away}
 use Rattle.system_laws.proofs.ClientMoves.{StandsFor}
 use Rattle.system_laws.proofs.KernelMoves.{SpellsOrAfter}

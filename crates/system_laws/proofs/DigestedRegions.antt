@@ -58,7 +58,7 @@ use Rattle.system_laws.specs.Parts.{medium_of, region_of}
 use Rattle.system_laws.specs.Clocks.{clocks_of}
 use Rattle.system_laws.specs.Relation.{Cut, IsClientOf, SpellsAfter, SpellsShared, StandsMarked, machine_of}
 use Rattle.system_laws.specs.Relation as cuts
-use Rattle.system_laws.specs.Contents.{mark_by}
+use Rattle.recovery_laws.specs.Contents.{mark_by}
 use Rattle.system_laws.specs.Steps.{IsBegunIn, IsStep}
 use Rattle.system_laws.specs.WorldView.{WorldView, calls_of}
 use Rattle.system_laws.proofs.AcceptedRegions.{Accepted, accepted, seat_then, unaccepted_then}

@@ -22,7 +22,7 @@ use Rattle.system_laws.specs.KeptCalls.{calls_then}
 use Rattle.system_laws.specs.Clocks.{clocks_of}
 use Rattle.system_laws.specs.Relation.{IsClientOf, StandsMarked}
 use Rattle.system_laws.specs.Steps.{IsBegunIn, IsStep}
-use Rattle.system_laws.specs.Contents.{mark_by}
+use Rattle.recovery_laws.specs.Contents.{mark_by}
 use Rattle.system_laws.specs.WorldTree.{world_tree}
 use Rattle.system_laws.specs.WorldView.{WorldView, calls_of}
 use Rattle.system_laws.proofs.Given.{Given}

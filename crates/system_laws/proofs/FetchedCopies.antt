@@ -51,7 +51,7 @@ use Rattle.event_steps.proofs.world_invariant_lemmas.Records.{records_stay}
 use Rattle.system_laws.specs.Leaves.{IsSettledAt}
 use Rattle.system_laws.specs.Relation.{Cut, IsBegunAs, IsClientOf, IsWorldOf, StandsMarked}
 use Rattle.system_laws.specs.Steps.{IsBegunIn, IsStep}
-use Rattle.system_laws.specs.Contents.{mark_by}
+use Rattle.recovery_laws.specs.Contents.{mark_by}
 use Rattle.system_laws.specs.WorldTree.{away_records}
 use Rattle.system_laws.specs.WorldView.{WorldView, calls_of}
 use Rattle.system_laws.proofs.FailedKernel.{refused_step}

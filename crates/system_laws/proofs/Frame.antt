@@ -22,7 +22,7 @@ use Rattle.event_lists.specs.Courses.{Content}
 use Rattle.system_laws.specs.Parts.{region_of}
 use Rattle.system_laws.specs.Relation.{Cut, IsClientOf, IsWorldOf, SpellsAfter, SpellsShared, StandsMarked, marks_digested}
 use Rattle.system_laws.specs.Relation as cuts
-use Rattle.system_laws.specs.Contents.{mark_by}
+use Rattle.recovery_laws.specs.Contents.{mark_by}
 use Rattle.system_laws.specs.WorldView.{WorldView, calls_of}
 use Rattle.system_laws.proofs.Seats.{held_by_each}
 

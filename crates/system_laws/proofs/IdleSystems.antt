@@ -34,7 +34,7 @@ use Rattle.event_steps.specs.View.{SeatView, SystemView, done_of}
 use Rattle.event_steps.proofs.world_invariant_lemmas.Idle.{idle_holds}
 use Rattle.event_steps.proofs.world_invariant_lemmas.Owners.{is_high, is_low}
 use Rattle.event_steps.proofs.file_graph_lemmas.Fields.{some_is}
-use Rattle.system_laws.specs.Contents.{mark_by}
+use Rattle.recovery_laws.specs.Contents.{mark_by}
 use Rattle.system_laws.specs.Idle.{IsIdleSeat, IsIdleSystem}
 use Rattle.system_laws.specs.KeptCalls.{no_calls}
 use Rattle.system_laws.specs.Parts.{region_beside, region_of}

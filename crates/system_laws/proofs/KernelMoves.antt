@@ -28,7 +28,7 @@ use Rattle.system_laws.specs.Parts.{medium_of, region_medium}
 use Rattle.system_laws.specs.Clocks.{clocks_of, left_of}
 use Rattle.system_laws.specs.Relation.{Cut, IsWorld, IsWorldOf, SpellsAfter, SpellsShared, machine_of}
 use Rattle.system_laws.specs.Steps.{IsStep, recoverable}
-use Rattle.system_laws.specs.Contents.{CanRecover, stored_state}
+use Rattle.recovery_laws.specs.Contents.{CanRecover, stored_state}
 use Rattle.system_laws.specs.WorldTree.{world_tree}
 use Rattle.system_laws.specs.WorldView.{WorldView, calls_of}
 use Rattle.system_laws.proofs.Still.{client_part_is}

@@ -63,6 +63,5 @@ pub mod IdleSystems
 -- Handed on to the crates above, which list only the highest of what they name.
 pub use Rattle.event_steps.proofs.batch_journal_lemmas
 pub use Rattle.event_steps.proofs.call_effects_lemmas
-pub use Rattle.event_steps.proofs.kernel_fs_lemmas
 pub use Rattle.event_steps.proofs.update_log_lemmas
 pub use Rattle.event_steps.proofs.world_invariant_lemmas

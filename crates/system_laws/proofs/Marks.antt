@@ -12,7 +12,7 @@ use Rattle.event_steps.specs.area_reader.Store.{Store, marks}
 use Rattle.event_steps.specs.digester.MarkMoves.{marks_after}
 use Rattle.event_steps.proofs.file_graph_lemmas.Fields.{bind_some, guard_some, some_is, test_some}
 use Rattle.event_steps.proofs.world_invariant_lemmas.Owners.{is_high, is_low}
-use Rattle.system_laws.specs.Contents.{mark_by}
+use Rattle.recovery_laws.specs.Contents.{mark_by}
 
 as_many : {A : Type 0} (field : Field A) (n : ℕ) (bytes : List ℕ) (x : List A × List ℕ) → items_at field n bytes ≡ Some x → length x.0 ≡ n
 unfolding items_at

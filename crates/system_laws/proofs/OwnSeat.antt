@@ -11,7 +11,7 @@ use Rattle.event_steps.specs.Stops.{SeatLeaves}
 use Rattle.event_steps.specs.View.{HasSeat, SeatView, seat_of}
 use Rattle.system_laws.specs.Leaves.{HoldRecords, HoldsRecords, SystemLeaves}
 use Rattle.system_laws.specs.Relation.{IsClientOf, StandsMarked}
-use Rattle.system_laws.specs.Contents.{mark_by}
+use Rattle.recovery_laws.specs.Contents.{mark_by}
 use Rattle.system_laws.specs.WorldView.{WorldView, calls_of}
 use Rattle.system_laws.proofs.Seats.{same_seat}
 use Rattle.system_laws.proofs.WorldMoves.{StandsAs, Stood}

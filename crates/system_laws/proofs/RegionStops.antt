@@ -34,7 +34,7 @@ use Rattle.system_laws.specs.News.{news}
 use Rattle.system_laws.specs.Parts.{medium_of, region_beside, region_of}
 use Rattle.system_laws.specs.Clocks.{clocks_of, left_of}
 use Rattle.system_laws.specs.Relation.{Cut, IsWorldOf, SpellsAfter, SpellsShared}
-use Rattle.system_laws.specs.Contents.{regions_in}
+use Rattle.recovery_laws.specs.Contents.{regions_in}
 use Rattle.system_laws.specs.Steps.{IsBegunIn, IsStep}
 use Rattle.system_laws.specs.WorldView.{WorldView, calls_of}
 use Rattle.system_laws.proofs.Given.{Given}

@@ -11,7 +11,7 @@ use Rattle.posix_calls.specs.Run.{Run}
 use Rattle.posix_calls.specs.declared.call.Call.{Call}
 use Rattle.posix_calls.specs.declared.call.Reply.{Reply}
 use Rattle.posix_calls.specs.declared.operation.Operation.{Operation}
-use Rattle.posix_calls.specs.declared.operation.Operation.TheVariants.{Tell, NewDir, NewFile, OpenFile, CloseFile, Write, Resize, RemoveDir, AddName, DropName, Move}
+use Rattle.posix_calls.specs.declared.operation.Operation.TheVariants.{Tell, NewDir, NewFile, OpenFile, CloseFile, Write, Resize, RemoveDir, AddName, DropName, Move, Exchange}
 use Rattle.event_steps.specs.file_graph.Graph.{is_among}
 use Rattle.event_steps.specs.log_record.declared.format.Record.{Record}
 use Rattle.event_steps.specs.client_log.HasTurn.{HasTurn}
@@ -68,6 +68,7 @@ after_kept calls c call (RemoveDir at i) none = refl
 after_kept calls c call (AddName at i) none = refl
 after_kept calls c call (DropName at i) none = refl
 after_kept calls c call (Move from to i is_dir replaced) none = refl
+after_kept calls c call (Exchange first second i j) none = refl
 
 pub calls_kept : (calls : List (Option Call)) (c : ℕ) (operation : Operation) → IsNoAnswer operation → calls_then calls (Step c) (outcomes.Reply (reply_of operation)) ≡ set_call calls c None
 calls_kept calls c (Tell answer) none = absurd (none answer refl)
@@ -81,6 +82,7 @@ calls_kept calls c (RemoveDir at i) none = refl
 calls_kept calls c (AddName at i) none = refl
 calls_kept calls c (DropName at i) none = refl
 calls_kept calls c (Move from to i is_dir replaced) none = refl
+calls_kept calls c (Exchange first second i j) none = refl
 
 -- a begun call comes to effects
 with_effects : (w : World) (c : ℕ) (b : world.Begun) → IsCoherent w → IsBegun w c b → IsNoAnswer b.operation

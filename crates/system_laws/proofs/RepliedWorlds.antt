@@ -4,7 +4,7 @@ use Rattle.std.proofs.lemmas.Bool.Decides.{eqb_tells}
 use Rattle.posix_calls.specs.Tree.{with_own}
 use Rattle.posix_calls.specs.Operations.{makes, own_after}
 use Rattle.posix_calls.specs.declared.operation.Operation.{Operation}
-use Rattle.posix_calls.specs.declared.operation.Operation.TheVariants.{Tell, NewDir, NewFile, OpenFile, CloseFile, Write, Resize, RemoveDir, AddName, DropName, Move}
+use Rattle.posix_calls.specs.declared.operation.Operation.TheVariants.{Tell, NewDir, NewFile, OpenFile, CloseFile, Write, Resize, RemoveDir, AddName, DropName, Move, Exchange}
 use Rattle.event_steps.specs.file_graph.Graph.{after_effects, is_among, touches}
 use Rattle.event_steps.specs.file_graph.declared.effect.Effect.{Effect}
 use Rattle.event_steps.specs.call_effects.Effects.{effects_by, recounted_file, stored_at}
@@ -56,6 +56,7 @@ made_touched names new (RemoveDir at i) m = absurd (cc)
 made_touched names new (AddName at i) m = absurd (cc)
 made_touched names new (DropName at i) m = absurd (cc)
 made_touched names new (Move from to i is_dir replaced) m = absurd (cc)
+made_touched names new (Exchange first second i j) m = absurd (cc)
 
 -- what a client knows once its record is kept, by its tables
 abbrev pub kept_by : Knowledge → Begun → Knowledge
@@ -161,7 +162,7 @@ module _ (w : World) (c : ℕ) (b : Begun) (h : IsCoherent w) (is : IsBegun w c 
   by_made true m =
       let copies = (knows_made was.knows b.new b.operation es).copies in
       let agrees = made_agrees was.knows (whole_graph w) (held_descriptors w) b.call b.new b.operation es h.sound (h.agrees c is.client) pending.planned m in
-      let fewer : IsForgetful (knows_made was.knows b.new b.operation es) kept = subst (λ (made : Option ℕ). IsForgetful (knows_made was.knows b.new b.operation es) (knows_logged was.knows es made (change_of b.new b.operation))) (sym (ap (λ x. cond x (Some b.new) None) m)) (one_less was.knows b.new b.operation es m) in
+      let fewer : IsForgetful (knows_made was.knows b.new b.operation es) kept = subst (λ (made : Option ℕ). IsForgetful (knows_made was.knows b.new b.operation es) (knows_logged was.knows es made (change_of b.new b.operation))) (sym (ap (λ x. cond x (Some b.new) None) m)) (one_less was.knows b.new b.operation es b.call pending.planned m) in
       record { holds = less_holds copies kept agrees leased fewer; tree = less_tree copies kept agrees leased fewer }
     where
       leased : (i : ℕ) (copy : Option NodeView) → (knows_made was.knows b.new b.operation es).copies i ≡ Some copy → has_lease was i ≡ true

@@ -29,7 +29,7 @@ use Rattle.event_steps.proofs.world_invariant_lemmas.Records.{front_written, res
 use Rattle.event_steps.proofs.world_invariant_lemmas.Regions.{sealed_holds, sealed_tree}
 use Rattle.system_laws.specs.Parts.{region_of}
 use Rattle.system_laws.specs.Relation.{IsClientOf, StandsMarked, accepted_of, first_generation}
-use Rattle.system_laws.specs.Contents.{mark_by}
+use Rattle.recovery_laws.specs.Contents.{mark_by}
 use Rattle.system_laws.specs.Steps.{IsBegunIn, IsStep}
 use Rattle.system_laws.specs.WorldView.{WorldView, calls_of}
 use Rattle.system_laws.proofs.ClientMoves.{StandsFor, client_moves, kernel_stands, with_part}

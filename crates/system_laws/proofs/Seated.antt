@@ -24,7 +24,7 @@ use Rattle.system_laws.specs.Parts.{region_of}
 use Rattle.system_laws.specs.Clocks.{clocks_of}
 use Rattle.system_laws.specs.Relation.{Cut, IsClientOf, IsWorldOf, StandsMarked}
 use Rattle.system_laws.specs.Steps.{IsBegunIn, IsStep}
-use Rattle.system_laws.specs.Contents.{mark_by}
+use Rattle.recovery_laws.specs.Contents.{mark_by}
 use Rattle.system_laws.specs.WorldTree.{world_tree}
 use Rattle.system_laws.specs.WorldView.{WorldView, calls_of}
 use Rattle.system_laws.proofs.Frame.{KeepsSealed, one_seat, same_kernel}

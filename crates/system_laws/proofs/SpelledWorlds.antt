@@ -23,7 +23,7 @@ use Rattle.event_lists.specs.Courses.{Content}
 use Rattle.system_laws.specs.Leaves.{SystemLeaves}
 use Rattle.system_laws.specs.Relation.{Cut, IsClientOf, IsWorldOf, SpellsAfter, SpellsShared, marks_digested}
 use Rattle.system_laws.specs.Relation as cuts
-use Rattle.system_laws.specs.Contents.{mark_by}
+use Rattle.recovery_laws.specs.Contents.{mark_by}
 use Rattle.system_laws.specs.WorldView.{WorldView, calls_of}
 use Rattle.system_laws.proofs.Marks.{eight_before, eight_marks, moved_mark, other_mark}
 use Rattle.system_laws.proofs.Seats.{same_seat}

@@ -1,6 +1,6 @@
 -- A call that is started and answered by what its client knows.
 use Rattle.std.proofs.Common.{◌≡◌, ◌⊎◌, inl, inr, ℕ, ◌-◌, Bool, true, false, [], Option, Some, None, refl, subst, sym, ap, ◌∙◌}
-use Rattle.std.specs.Prelude.{slice_set, ◌&&◌, ◌==◌, not, Ok, Err, option_map}
+use Rattle.std.specs.Prelude.{slice_set, ◌&&◌, ◌==◌, not, Ok, Err}
 use Rattle.tier_device.specs.declared.media.Media.{Ghosts}
 use Rattle.posix_calls.specs.Tree.{Own}
 use Rattle.posix_calls.specs.Query.{◌>>=◌}
@@ -10,11 +10,10 @@ use Rattle.posix_calls.specs.Operations.{is_client, makes, own_after, Step}
 use Rattle.posix_calls.specs.declared.call.Call.{Call}
 use Rattle.posix_calls.specs.declared.call.Reply.{Reply}
 use Rattle.posix_calls.specs.declared.operation.Operation.{Operation}
-use Rattle.posix_calls.specs.declared.operation.Operation.TheVariants.{Tell, NewDir, NewFile, OpenFile, CloseFile, Write, Resize, RemoveDir, AddName, DropName, Move}
+use Rattle.posix_calls.specs.declared.operation.Operation.TheVariants.{Tell, NewDir, NewFile, OpenFile, CloseFile, Write, Resize, RemoveDir, AddName, DropName, Move, Exchange}
 use Rattle.event_steps.specs.file_graph.declared.effect.Kind.TheVariants as kinds
 use Rattle.event_steps.specs.call_effects.Knowledge.{IsPlanned, Knowledge, knows_after, part_of}
 use Rattle.event_steps.specs.call_effects.Effects.{make_effects}
-use Rattle.event_steps.specs.call_effects.NodeView.{NodeView}
 use Rattle.event_steps.specs.call_effects.Records.{effects_asked}
 use Rattle.event_steps.specs.client_plan.CallPlan.{change_of, own_changed}
 use Rattle.event_steps.specs.client_plan.Steps.{IsAnswered, IsRefused}
@@ -34,7 +33,7 @@ use Rattle.event_steps.specs.declared.outcome.Outcome.TheVariants as outcomes
 use Rattle.event_steps.proofs.world_invariant_lemmas.Replies.{answered_holds, answered_step, refused}
 use Rattle.system_laws.specs.Relation.{IsClientOf, StandsMarked, status_of}
 use Rattle.system_laws.specs.Steps.{IsBegunIn, IsStep}
-use Rattle.system_laws.specs.Contents.{mark_by}
+use Rattle.recovery_laws.specs.Contents.{mark_by}
 use Rattle.system_laws.specs.WorldView.{WorldView, calls_of}
 use Rattle.system_laws.proofs.Given.{Given}
 use Rattle.system_laws.proofs.Seated.{own_mark, own_part, same_world}
@@ -55,6 +54,7 @@ own_is new own (RemoveDir at i) = refl
 own_is new own (AddName at i) = refl
 own_is new own (DropName at i) = refl
 own_is new own (Move from to i is_dir replaced) = refl
+own_is new own (Exchange first second i j) = refl
 
 -- it makes no node
 makes_none : (p : Part) (new : ℕ) (operation : Operation) → run_part p (effects_asked new operation) ≡ Known (Ok []) → makes operation ≡ false
@@ -70,21 +70,18 @@ makes_none p new (RemoveDir at i) e = refl
 makes_none p new (AddName at i) e = refl
 makes_none p new (DropName at i) e = refl
 makes_none p new (Move from to i is_dir replaced) e = refl
+makes_none p new (Exchange first second i j) e = refl
 
 -- what a client knows after it is what it knew, with that change of a descriptor
 knows_told : (k : Knowledge) (new : ℕ) (operation : Operation) → makes operation ≡ false → knows_after k new operation [] ≡ with_change k (change_of new operation)
 knows_told k new operation none = λ t. record {
   client = k.client;
   own = own_is new k.own operation t;
-  copies = λ i. same_copy (k.copies i) t;
+  copies = k.copies;
   blocks = k.blocks;
   granted = λ i. same_numbers (k.granted i) (i == new) t;
 }
   where
-    same_copy : (copy : Option (Option NodeView)) → option_map (λ view. view) copy ≡ copy
-    same_copy None = refl
-    same_copy (Some view) = refl
-
     all_stay : (b : Bool) → (b && true) ≡ b
     all_stay true = refl
     all_stay false = refl

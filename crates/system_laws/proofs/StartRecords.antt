@@ -40,7 +40,7 @@ use Rattle.system_laws.specs.KeptCalls.{set_call}
 use Rattle.system_laws.specs.Parts.{region_beside, region_of}
 use Rattle.system_laws.specs.Relation.{IsClientOf, StandsMarked, status_of}
 use Rattle.system_laws.specs.Steps.{IsBegunIn, IsStep}
-use Rattle.system_laws.specs.Contents.{mark_by}
+use Rattle.recovery_laws.specs.Contents.{mark_by}
 use Rattle.system_laws.specs.WorldView.{WorldView, calls_of}
 use Rattle.system_laws.proofs.Given.{Given}
 use Rattle.system_laws.proofs.Seated.{own_mark, own_part, seat_step}

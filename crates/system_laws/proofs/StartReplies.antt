@@ -25,7 +25,7 @@ use Rattle.system_laws.specs.News.{news}
 use Rattle.system_laws.specs.Parts.{region_of}
 use Rattle.system_laws.specs.Relation.{IsBegunAs, IsClientOf, StandsMarked}
 use Rattle.system_laws.specs.Steps.{IsBegunIn, IsStep}
-use Rattle.system_laws.specs.Contents.{mark_by}
+use Rattle.recovery_laws.specs.Contents.{mark_by}
 use Rattle.system_laws.specs.WorldView.{WorldView, calls_of}
 use Rattle.system_laws.proofs.Frame.{KeepsSealed}
 use Rattle.system_laws.proofs.Given.{Given}

@@ -41,7 +41,7 @@ use Rattle.event_steps.proofs.world_invariant_lemmas.Stops.{stop_stores}
 use Rattle.event_lists.specs.Courses.{WorldContent, part_of}
 use Rattle.system_laws.specs.Relation.{Cut, IsBegunAs, IsClientOf, IsWorldOf, SpellsAfter, SpellsShared, StandsMarked, first_generation, marks_digested}
 use Rattle.system_laws.specs.Relation as cuts
-use Rattle.system_laws.specs.Contents.{CanRecover, log_in, mark_by, mark_in, regions_in, stored_state}
+use Rattle.recovery_laws.specs.Contents.{CanRecover, log_in, mark_by, mark_in, regions_in, stored_state}
 use Rattle.system_laws.specs.WorldView.{WorldView, calls_of}
 use Rattle.system_laws.proofs.Seats.{same_seat}
 use Rattle.system_laws.proofs.StopLogs.{CountsAt, HoldsSeat, counts_at_mark, counts_behind}

@@ -26,7 +26,7 @@ use Rattle.system_laws.specs.Parts.{region_beside, region_of}
 use Rattle.system_laws.specs.Clocks.{clocks_of, left_of}
 use Rattle.system_laws.specs.Relation.{Cut, IsWorld, IsWorldOf, SpellsAfter, SpellsShared}
 use Rattle.system_laws.specs.Steps.{recoverable}
-use Rattle.system_laws.specs.Contents.{regions_in, stored_state}
+use Rattle.recovery_laws.specs.Contents.{regions_in, stored_state}
 use Rattle.system_laws.specs.WorldTree.{world_tree}
 use Rattle.system_laws.specs.WorldView.{WorldView, calls_of}
 use Rattle.system_laws.proofs.PartMedia.{IsLeftNow, current_region, each_left, other_region, part_is, region_left}

@@ -17,7 +17,7 @@ use Rattle.event_steps.specs.View.{SeatView, seat_of}
 use Rattle.event_steps.proofs.world_invariant_lemmas.Owners.{client_is}
 use Rattle.system_laws.specs.Leaves.{SystemLeaves}
 use Rattle.system_laws.specs.Relation.{Cut, IsWorldOf}
-use Rattle.system_laws.specs.Contents.{mark_by}
+use Rattle.recovery_laws.specs.Contents.{mark_by}
 use Rattle.system_laws.specs.WorldTree.{log_by, opened_by, opened_in, world_tree}
 use Rattle.system_laws.specs.WorldView.{WorldView, calls_of}
 use Rattle.system_laws.proofs.MarkPlaces.{behind_mark}

@@ -37,7 +37,7 @@ use Rattle.event_steps.proofs.world_invariant_lemmas.Records.{either}
 use Rattle.event_steps.proofs.world_invariant_lemmas.Regions.{current_wiped_holds, current_wiped_tree, other_wiped_holds, other_wiped_tree}
 use Rattle.system_laws.specs.Parts.{region_of}
 use Rattle.system_laws.specs.Relation.{IsClientOf, StandsMarked, accepted_of, held_of, status_of}
-use Rattle.system_laws.specs.Contents.{mark_by}
+use Rattle.recovery_laws.specs.Contents.{mark_by}
 use Rattle.system_laws.specs.Steps.{IsBegunIn, IsStep}
 use Rattle.system_laws.specs.WorldView.{WorldView, calls_of}
 use Rattle.system_laws.proofs.ClientMoves.{StandsFor, client_moves, kernel_stands, with_part}

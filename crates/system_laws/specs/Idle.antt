@@ -20,7 +20,7 @@ use Rattle.event_steps.specs.world_invariant.Limits.{AreWithin}
 use Rattle.event_steps.specs.libfs.NewClient.{IsBlank, IsNew}
 use Rattle.event_steps.specs.Refusals.{no_refusals}
 use Rattle.event_steps.specs.View.{HasSeat, SeatView, SystemView}
-use Rattle.system_laws.specs.Contents.{mark_by}
+use Rattle.recovery_laws.specs.Contents.{mark_by}
 
 module _ {M : Type 0} (device : Ghosts M) where
   -- A kernel as it is opened over shared media with these marks, whose graph is sound where nobody has a file open, within the limits, and costs no more units than there are.

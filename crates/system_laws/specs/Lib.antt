@@ -1,7 +1,6 @@
 pub mod Parts
 pub mod Clocks
 pub mod WorldView
-pub mod Contents
 pub mod WorldTree
 pub mod News
 pub mod KeptCalls
@@ -28,6 +27,7 @@ pub use Rattle.event_steps.specs.libfs
 pub use Rattle.event_steps.specs.log_record
 pub use Rattle.event_steps.specs.migrator
 pub use Rattle.event_steps.specs.record_validation
+pub use Rattle.recovery_laws.specs as recovery_laws
 pub use Rattle.event_steps.specs.shared_area
 pub use Rattle.event_steps.specs.update_log
 pub use Rattle.event_steps.specs.world_invariant

@@ -1,6 +1,7 @@
 -- Trusted: headline
 -- What an event acknowledges, and what is started and not answered then.
 use Rattle.std.specs.Prelude.{◌==◌, ℕ, [], ◌∷◌, Option, Some, None, if◌then◌else◌}
+use Rattle.posix_calls.specs.Run.{Asked}
 use Rattle.posix_calls.specs.Outcome.{Unfinished, without_call}
 use Rattle.posix_calls.specs.declared.call.Call.{Call}
 use Rattle.posix_calls.specs.declared.call.Reply.{Reply}
@@ -18,7 +19,7 @@ with_call calls client call c = if c == client then Some call else calls c
 
 -- A call is acknowledged, and these are unfinished then. What a client has unfinished since its region's device failed stays so, whatever it is answered later.
 abbrev pub answered : Unfinished → ℕ → Call → Reply → Ledger
-answered calls client call reply = record { turns = record { client = client; call = call; reply = reply } ∷ []; calls = calls }
+answered calls client call reply = record { turns = Asked client call reply ∷ []; calls = calls }
 
 -- The last step of a call: it is acknowledged, but where its region's device failed; then it stays unfinished.
 abbrev pub after_step : Unfinished → ℕ → Option Call → Reply → Ledger

@@ -33,7 +33,7 @@ use Rattle.event_steps.specs.libfs.SealedRegion.{SealedRegionView}
 use Rattle.event_steps.specs.View.{HasSeat, SeatView, done_of}
 use Rattle.event_lists.specs.Courses.{Content}
 use Rattle.system_laws.specs.Parts.{region_of}
-use Rattle.system_laws.specs.Contents.{mark_by}
+use Rattle.recovery_laws.specs.Contents.{mark_by}
 use Rattle.system_laws.specs.WorldView.{WorldView, calls_of}
 
 -- ---- a client

@@ -17,7 +17,7 @@ use Rattle.system_laws.specs.Moves.{EventMoves}
 use Rattle.system_laws.specs.News.{news}
 use Rattle.system_laws.specs.Clocks.{clocks_of, left_of}
 use Rattle.system_laws.specs.Relation.{IsWorld}
-use Rattle.system_laws.specs.Contents.{CanRecover, stored_state}
+use Rattle.recovery_laws.specs.Contents.{CanRecover, stored_state}
 use Rattle.system_laws.specs.WorldTree.{world_tree}
 use Rattle.system_laws.specs.WorldView.{WorldView, calls_of}
 

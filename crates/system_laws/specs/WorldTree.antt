@@ -18,7 +18,7 @@ use Rattle.event_steps.specs.world_invariant.Logs.{after_clients}
 use Rattle.event_steps.specs.libfs.ClientHoldings.{known_to}
 use Rattle.event_steps.specs.libfs.SealedRegion.{SealedRegionView}
 use Rattle.event_steps.specs.View.{SeatView, SystemView, seat_of}
-use Rattle.system_laws.specs.Contents.{mark_by}
+use Rattle.recovery_laws.specs.Contents.{mark_by}
 use Rattle.system_laws.specs.WorldView.{WorldView}
 
 -- what a client has open at a number

@@ -5,12 +5,15 @@ ghost use Rattle.tier_device.specs.declared.media.Tier.TheVariants.{Fast};
 ghost use Rattle.strata_threads.specs.SharedClients.{ShareTable};
 ghost use Rattle.tier_device.specs.Memory.{IsAtRest, memory_seen};
 ghost use Rattle.thread_runs.specs.FirstPath.{IsRunAtRest, MayBeLeft};
-ghost use Rattle.world_files.specs.area_recovery.Parts.{AreAtRest, part_medium};
+ghost use Rattle.recovery.specs.area_recovery.Parts.{AreAtRest, part_medium};
 ghost use Rattle.call_driver.specs.event_steps.Sound.{AreSeats};
 
 use crate::region_stops::{RegionStops, RunMedium};
 use call_driver::in_event_steps::ClientSlot;
 use call_driver::in_interleavings::World;
+use recovery::in_area_recovery::RecoveryError;
+use recovery::in_recovery_laws::tier_lens;
+use recovery::{Parts, REGIONS, format, recover};
 use script::RunError;
 use script::in_update_log::{REGION_SIZE, Region};
 use std::alloc::Global;
@@ -19,9 +22,6 @@ use strata_threads::in_layout::{CLIENTS, Geometry};
 use strata_threads::in_libfs::{Client, SealedRegion};
 use strata_threads::{ThreadClient, ThreadSet};
 use tier_device::{Media, MemMedia, StopMedia};
-use world_files::in_area_recovery::RecoveryError;
-use world_files::in_recovery::{Parts, REGIONS, format, recover};
-use world_files::{WorldSizes, tier_lens};
 
 // Data blocks of the three tiers.
 const BLOCKS: [u32; 3] = [512, 1_024, 1_024];
@@ -99,15 +99,9 @@ fn recovery_fault(error: RecoveryError) -> RunError {
 
 fn geometry_of(units: u32) -> Result<Geometry, RunError> {
     let [fast, block, slow] = BLOCKS;
-    let sizes = WorldSizes {
-        units,
-        fast,
-        block,
-        slow,
-    };
-    match sizes.geometry() {
-        Ok(geometry) => Ok(geometry),
-        Err(_) => Err(RunError::Damaged),
+    match Geometry::new(units, fast, block, slow) {
+        Some(geometry) => Ok(geometry),
+        None => Err(RunError::Damaged),
     }
 }
 

@@ -19,6 +19,12 @@ use std::alloc::{AllocError, AllocFailed, Global};
 /// can't grow, the call changes nothing, counts as failed and is a device fault.
 #[derive(Drop)]
 pub struct MemMedia {
+    inside: Box<Inside>,
+}
+
+// What a medium in memory holds. It stands in a box, so that a medium is one value for whoever owns one.
+#[derive(Drop)]
+struct Inside {
     alloc: Global,
     tiers: Tiers,
     first: Tiers,
@@ -26,6 +32,35 @@ pub struct MemMedia {
     faults: u64,
     ghost replays: { (t : Tier) → row tiers t ≡ replay_content t (row first t) calls },
     ghost few: { faults < 2 ^ 64 },
+}
+
+impl Inside {
+    // Of a medium of three empty tiers.
+    fn empty(alloc: Global) -> Self {
+        Inside {
+            alloc,
+            tiers: Tiers::empty(alloc),
+            first: Tiers::empty(alloc),
+            calls: CallLog::new(alloc),
+            faults: 0,
+        }
+    }
+
+    // A copy of these bytes, and a place for a medium.
+    fn room_for(
+        alloc: Global,
+        fast: &[u8],
+        block: &[u8],
+        slow: &[u8],
+    ) -> Result<(Tiers, Box<Self>), AllocError>
+        ensures fast { IfOk result (λ room. row room.0 Fast ≡ fast.now) }
+        ensures block { IfOk result (λ room. row room.0 Block ≡ block.now) }
+        ensures slow { IfOk result (λ room. row room.0 Slow ≡ slow.now) }
+    {
+        let first = Tiers::copy_of(alloc, fast, block, slow)?;
+        let inside = Box::new(alloc, Inside::empty(alloc))?;
+        Ok((first, inside))
+    }
 }
 
 impl MemMedia {
@@ -46,14 +81,17 @@ impl MemMedia {
         ensures faults { IfOk result (λ m. memory_failures m ≡ 0) }
         ensures refused { IfErr result (λ back. back.value ≡ (fast, block, slow)) }
     {
-        match Tiers::copy_of(alloc, &fast, &block, &slow) {
-            Ok(first) => Ok(MemMedia {
-                alloc,
-                tiers: Tiers::new(fast, block, slow),
-                first,
-                calls: CallLog::new(alloc),
-                faults: 0,
-            }),
+        match Inside::room_for(alloc, &fast, &block, &slow) {
+            Ok((first, mut inside)) => {
+                *inside = Inside {
+                    alloc,
+                    tiers: Tiers::new(fast, block, slow),
+                    first,
+                    calls: CallLog::new(alloc),
+                    faults: 0,
+                };
+                Ok(MemMedia { inside })
+            }
             Err(_) => Err(AllocFailed {
                 value: (fast, block, slow),
             }),
@@ -64,7 +102,7 @@ impl MemMedia {
     pub fn bytes(&self, tier: Tier) -> &[u8]
         ensures { result.now ≡ memory_seen self.now tier }
     {
-        self.tiers.bytes(tier)
+        self.inside.tiers.bytes(tier)
     }
 
     /// The medium after a stop now, at rest: each byte that was written and not fenced holds what the fill says.
@@ -78,7 +116,7 @@ impl MemMedia {
         let fast = self.tier_after_stop(Tier::Fast, fill)?;
         let block = self.tier_after_stop(Tier::Block, fill)?;
         let slow = self.tier_after_stop(Tier::Slow, fill)?;
-        match MemMedia::of_bytes(self.alloc, fast, block, slow) {
+        match MemMedia::of_bytes(self.inside.alloc, fast, block, slow) {
             Ok(media) => Ok(media),
             Err(_) => Err(AllocError),
         }
@@ -88,10 +126,11 @@ impl MemMedia {
         ensures held { IfOk result (λ bytes. bytes.items ≡ memory_held fill self.now tier) }
         ensures allowed { IfOk result (λ bytes. memory_left self.now (memory_moment self.now) tier bytes.items) }
     {
-        let (entries, written) = self.calls.parts()?;
+        let inside = &*self.inside;
+        let (entries, written) = inside.calls.parts()?;
         held_after(
-            self.alloc,
-            self.first.bytes(tier),
+            inside.alloc,
+            inside.first.bytes(tier),
             entries,
             &written,
             tier,
@@ -114,7 +153,7 @@ impl Media for MemMedia {
 
     ghost seen_now = { memory_seen_now };
 
-    ghost few = { λ m. m.few };
+    ghost few = { λ m. m.inside.value.few };
 
     ghost sized = { memory_sized };
 
@@ -160,13 +199,14 @@ impl Media for MemMedia {
         if !lies_within(at, bytes.len(), size) {
             return Err(MediaError::OutOfRange);
         }
-        match self.calls.push_write(tier, at, bytes) {
+        let inside = &mut *self.inside;
+        match inside.calls.push_write(tier, at, bytes) {
             Ok(()) => {
-                self.tiers.overwrite(tier, at, bytes);
+                inside.tiers.overwrite(tier, at, bytes);
                 Ok(())
             }
             Err(_) => {
-                self.faults = self.faults.saturating_add(1);
+                inside.faults = inside.faults.saturating_add(1);
                 Err(MediaError::DeviceFault)
             }
         }
@@ -185,10 +225,11 @@ impl Media for MemMedia {
         // As of a write.
         ensures refused { IsErrOf result DeviceFault → IsRefused self.old self.new }
     {
-        match self.calls.push_fence(tier) {
+        let inside = &mut *self.inside;
+        match inside.calls.push_fence(tier) {
             Ok(()) => Ok(()),
             Err(_) => {
-                self.faults = self.faults.saturating_add(1);
+                inside.faults = inside.faults.saturating_add(1);
                 Err(MediaError::DeviceFault)
             }
         }

@@ -1,5 +1,6 @@
 // Three rows of bytes in memory.
-ghost use Rattle.std.specs.Prelude.{◌≡◌, ◌≤◌, ◌+◌, length, IfOk};
+ghost use Rattle.std.specs.Prelude.{◌≡◌, ◌≤◌, ◌+◌, [], length, IfOk};
+ghost use Rattle.tier_device.specs.declared.media.Tier.{Tier};
 ghost use Rattle.tier_device.specs.declared.media.Tier.TheVariants.{Fast, Block, Slow};
 ghost use Rattle.tier_device.specs.Media.{overwritten, Puts};
 ghost use Rattle.tier_device.specs.Rows.{row};
@@ -25,6 +26,17 @@ impl Model for Tiers {
 }
 
 impl Tiers {
+    // Three tiers of no bytes.
+    pub(crate) fn empty(alloc: Global) -> Self
+        ensures { (t : Tier) → row result t ≡ [] }
+    {
+        Tiers {
+            fast: Vec::new(alloc),
+            block: Vec::new(alloc),
+            slow: Vec::new(alloc),
+        }
+    }
+
     /// The tiers that hold these bytes.
     pub fn new(fast: Vec<u8>, block: Vec<u8>, slow: Vec<u8>) -> Self
         ensures fast { row result Fast ≡ fast.items }

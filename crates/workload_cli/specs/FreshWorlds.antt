@@ -4,7 +4,7 @@ use Rattle.program_runs.specs.declared.patch.Patch.{Patch}
 use Rattle.tier_device.specs.declared.fill.Fill.{Fill}
 use Rattle.tier_device.specs.declared.media.Media.{Ghosts}
 use Rattle.world_files.specs.area_recovery.Parts.{PartsView, part_medium}
-use Rattle.world_files.specs.area_recovery.RecoveryStops.{IsRecoveredWorld}
+use Rattle.world_files.specs.recovery.WorldRecovery.{IsRecoveredWorld}
 use Rattle.world_files.specs.area_recovery.declared.error.RecoveryError.{RecoveryError}
 use Rattle.call_driver.specs.layout.Places.{Sizes}
 use Rattle.call_driver.specs.system_laws.WorldView.{WorldView}

@@ -8,12 +8,13 @@ use Rattle.world_files.specs.area_recovery.Errors.{OnBadLog, OnDamage}
 use Rattle.world_files.specs.area_recovery.FaultOrMemory.{IsFaultOrMemory}
 use Rattle.world_files.specs.area_recovery.PartMedia.{SomeRose}
 use Rattle.world_files.specs.area_recovery.Parts.{PartsView, contents_of, part_medium}
-use Rattle.world_files.specs.area_recovery.RecoveryStops.{IsRecoveredWorld, StaysStored}
+use Rattle.world_files.specs.area_recovery.RecoveryStops.{StaysStored}
+use Rattle.world_files.specs.recovery.WorldRecovery.{IsRecoveredWorld}
 use Rattle.world_files.specs.area_recovery.Refusals.{StoresBadLog, StoresDamage}
 use Rattle.world_files.specs.area_recovery.declared.error.RecoveryError.{RecoveryError}
 use Rattle.world_files.specs.area_recovery.declared.error.RecoveryError.TheVariants.{DeviceFault}
 use Rattle.call_driver.specs.layout.Places.{Sizes}
-use Rattle.call_driver.specs.system_laws.Contents.{CanRecover}
+use Rattle.world_files.specs.recovery_laws.Contents.{CanRecover}
 use Rattle.call_driver.specs.system_laws.Parts.{medium_of}
 use Rattle.call_driver.specs.event_lists.Courses.{PARTS}
 use Rattle.call_driver.specs.system_laws.WorldView.{WorldView}

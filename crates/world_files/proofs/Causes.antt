@@ -11,7 +11,7 @@ use Rattle.recovery.specs.area_recovery.Refusals.{HaveRegionSizes, IsCause, Stor
 use Rattle.recovery.specs.area_recovery.declared.error.RecoveryError.{RecoveryError}
 use Rattle.recovery.specs.area_recovery.declared.error.RecoveryError.TheVariants as errors
 use Rattle.recovery.specs.layout.Places.{Sizes}
-use Rattle.recovery.specs.system_laws.Contents.{CanRecover}
+use Rattle.recovery.specs.recovery_laws.Contents.{CanRecover}
 use Rattle.recovery.specs.event_lists.Courses.{WorldContent}
 use Rattle.world_files.specs.Worlds.{IsUnrecovered}
 

@@ -1,6 +1,6 @@
 -- Refusals that a world which is made anew may have.
 use Rattle.recovery.specs.area_recovery.FaultOrMemory.{IsFaultOrMemory}
-use Rattle.recovery.specs.FreshContents.{IsFormatError}
+use Rattle.recovery.specs.area_recovery.FreshContents.{IsFormatError}
 use Rattle.recovery.specs.area_recovery.declared.error.RecoveryError.{RecoveryError}
 use Rattle.recovery.specs.area_recovery.declared.error.RecoveryError.TheVariants as causes
 use Rattle.world_files.specs.FileErrors.{IsFileOrMemory, IsFormatRefused, IsOfSizes}

@@ -1,5 +1,5 @@
 -- What is so of each medium of a row is so of each part.
-use Rattle.std.proofs.Common.{◌≡◌, ◌<◌, ℕ, zero, suc, List, ◌∷◌, All, length, map, ap, sym, ◌∙◌, subst, arith}
+use Rattle.std.proofs.Common.{◌≡◌, ◌<◌, ℕ, List, ◌∷◌, All, length, map, ap, sym, ◌∙◌, subst}
 use Rattle.std.proofs.lemmas.List.{length-map}
 use Rattle.host_media.specs.DiskFile.{file_sizes, places_from}
 use Rattle.host_media.specs.File.{IsOpened, file_begin, file_left, file_moment, file_seen}
@@ -13,6 +13,7 @@ use Rattle.recovery.specs.area_recovery.Parts.{AreAtRest, PartsView, part_medium
 use Rattle.recovery.specs.area_recovery.Regions.{REGIONS}
 use Rattle.recovery.specs.layout.Places.{Sizes}
 use Rattle.recovery.specs.event_lists.Courses.{PARTS}
+use Rattle.recovery.proofs.area_recovery_lemmas.PartRows.{every_part}
 use Rattle.world_files.specs.Disks.{AreOnDisk}
 use Rattle.world_files.specs.Images.{AreRead}
 use Rattle.world_files.specs.PartSizes.{IsGeometryIn, image_size, part_sizes}
@@ -21,11 +22,6 @@ use Rattle.world_files.specs.PartSizes.{IsGeometryIn, image_size, part_sizes}
 pub as_many : {M : Type 0} (f : M → TierSizes) (media : List M) (g : Sizes) → map f media ≡ part_sizes g → length media ≡ PARTS
 as_many f media g is = sym (length-map media f) ∙ ap length is
 
-module _ {M : Type 0} (P : M → Type 0) (v : PartsView M) (sixteen : length v.regions ≡ REGIONS) where
-  pub each_part : All P (v.shared ∷ v.regions) → (p : ℕ) → p < PARTS → P (part_medium v p)
-  each_part all zero low = all 0 v.shared (omega arith)
-  each_part all (suc k) low = all (suc k) v.shared (omega (arith, low, sixteen))
-
 module _ {M : Type 0} (device : Ghosts M) where
   -- nothing is pending on a medium
   abbrev pub RestsAll : M → Type 0
@@ -33,7 +29,7 @@ module _ {M : Type 0} (device : Ghosts M) where
 
   -- media that rest do so as parts
   pub parts_rest : (media : List M) → All RestsAll media → (v : PartsView M) → v.shared ∷ v.regions ≡ media → length v.regions ≡ REGIONS → AreAtRest device (part_medium v)
-  parts_rest media rest v is sixteen p t low = each_part RestsAll v sixteen (subst (All RestsAll) (sym is) rest) p low t
+  parts_rest media rest v is sixteen p t low = every_part RestsAll v sixteen (subst (All RestsAll) (sym is) rest) p low t
 
   -- media that were cut from an image are its parts
   pub parts_are_read : (image : List ℕ) (g : Sizes) (media : List M) → IsGeometryIn image g → length image ≡ image_size g → map (medium_sizes device.seen) media ≡ part_sizes g → media_bytes device.seen media ≡ image → All RestsAll media
@@ -59,4 +55,4 @@ parts_on_disk g media sizes places opened v is sixteen = record {
 
 -- and nothing is pending on them
 pub disk_rests : (g : Sizes) (v : PartsView FileMedia) → AreOnDisk g v → (p : ℕ) (t : Tier) → p < PARTS → AtRest (file_seen (part_medium v p)) (file_left (part_medium v p) (file_moment (part_medium v p))) t
-disk_rests g v lie p t low = (each_part IsOpened v lie.sixteen lie.opened p low).at_rest t
+disk_rests g v lie p t low = (every_part IsOpened v lie.sixteen lie.opened p low).at_rest t

@@ -5,9 +5,9 @@ use Rattle.host_media.specs.declared.file.FileMedia.{FileMedia}
 use Rattle.tier_device.specs.declared.media.Media.{Ghosts}
 use Rattle.host_media.specs.DiskFile.{file_sizes, places_from}
 use Rattle.host_media.specs.File.{IsOpened, file_begin}
-use Rattle.recovery.specs.FreshContents.{AreLater}
+use Rattle.recovery.specs.area_recovery.FreshContents.{AreLater}
 use Rattle.recovery.specs.area_recovery.Parts.{PartsView, part_medium}
-use Rattle.recovery.specs.area_recovery.RecoveryStops.{IsRecoveredWorld}
+use Rattle.recovery.specs.WorldRecovery.{IsRecoveredWorld}
 use Rattle.recovery.specs.area_recovery.Regions.{REGIONS}
 use Rattle.recovery.specs.area_recovery.declared.error.RecoveryError.{RecoveryError}
 use Rattle.recovery.specs.layout.Places.{Sizes}

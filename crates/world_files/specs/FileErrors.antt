@@ -1,5 +1,5 @@
 -- What a refusal is for.
-use Rattle.recovery.specs.FreshContents.{IsFormatError}
+use Rattle.recovery.specs.area_recovery.FreshContents.{IsFormatError}
 use Rattle.world_files.specs.declared.error.WorldFileError.{WorldFileError}
 use Rattle.world_files.specs.declared.error.WorldFileError.TheVariants as errors
 

@@ -10,8 +10,8 @@ use crate::error::WorldFileError;
 use host_media::Sizes;
 use recovery::REGIONS;
 use recovery::in_layout::{BLOCK, Geometry, Super};
+use recovery::in_recovery_laws::tier_lens;
 use recovery::in_update_log::REGION_SIZE;
-use tier_device::Tier;
 
 /// How many media a world has: the shared one, and the regions.
 pub(crate) const PARTS: usize = REGIONS + 1;
@@ -30,32 +30,13 @@ pub fn read_geometry(bytes: &[u8]) -> Result<Geometry, WorldFileError>
     }
 }
 
-/// The lengths of the fast, block and slow tier of the shared medium, in bytes.
-pub fn tier_lens(geometry: &Geometry) -> [usize; 3]
-    ensures { result ≡ tier_blocks geometry.now Fast * BLOCK ∷ tier_blocks geometry.now Block * BLOCK ∷ tier_blocks geometry.now Slow * BLOCK ∷ [] }
-{
-    [
-        tier_len(geometry, Tier::Fast),
-        tier_len(geometry, Tier::Block),
-        tier_len(geometry, Tier::Slow),
-    ]
-}
-
-fn tier_len(geometry: &Geometry, tier: Tier) -> usize
-    ensures { result ≡ tier_blocks geometry.now tier * BLOCK }
-{
-    geometry.tier_blocks(tier) as usize * BLOCK
-}
-
 /// How many bytes the media have together.
 pub fn image_len(geometry: &Geometry) -> usize
     ensures { result ≡ image_size geometry.now }
 {
     // For the proof: the sizes are allowed.
     let _units = geometry.units();
-    let fast = tier_len(geometry, Tier::Fast);
-    let block = tier_len(geometry, Tier::Block);
-    let slow = tier_len(geometry, Tier::Slow);
+    let [fast, block, slow] = tier_lens(geometry);
     fast + block + slow + REGIONS * REGION_SIZE
 }
 

@@ -20,7 +20,7 @@ mod structures;
 
 pub use disk::open_disk;
 pub use error::WorldFileError;
-pub use geometry::{image_len, read_geometry, tier_lens};
+pub use geometry::{image_len, read_geometry};
 pub use image::{image_bytes, read_parts, zero_parts};
 pub use image_file::ImageFile;
 pub use size_options::{
@@ -62,6 +62,11 @@ pub mod in_record_validation {
 /// Of `recovery`, what the crates above name.
 pub mod in_recovery {
     pub use recovery::{Parts, REGIONS, format, recover, take_apart};
+}
+
+/// Of `recovery_laws`, what the crates above name.
+pub mod in_recovery_laws {
+    pub use recovery::in_recovery_laws::tier_lens;
 }
 
 /// Of `shared_area`, what the crates above name.

@@ -1,11 +1,11 @@
 -- Only a call that reads bytes of a file asks for any, and it has no record.
-use Rattle.std.proofs.Common.{◌≡◌, ◌≢◌, ℕ, cond, Bool, true, false, List, [], ◌∷◌, length, nat_lt, refl, Some, None, Option, Ok, Err, Result, ap, ◌∙◌}
+use Rattle.std.proofs.Common.{◌≡◌, ◌≢◌, ℕ, ◌==◌, cond, Bool, true, false, List, [], ◌∷◌, length, nat_lt, refl, Some, None, Option, Ok, Err, Result, ap, ◌∙◌}
 use Rattle.std.specs.FinMap as fin
 use Rattle.posix_calls.specs.Tree.{Own}
 use Rattle.posix_calls.specs.Query.{Seen, File, Dir, Query, Gives, Refuses, IsDir, Look, Range, ◌>>=◌}
 use Rattle.posix_calls.specs.Part.{Part, Found, Known, Unknown, run_part}
 use Rattle.posix_calls.specs.Walk.{Place, refuse, read_or_error, entries_at, size_at, names_at, kind_at, directory, directory_if, walk, leads_to, there, root_place}
-use Rattle.posix_calls.specs.Decide.{open_inode, number_or, empties, open_there, write_at, replaced_at, replacing_dir, rename_to, node_description, open_path, close, pread, pwrite, truncate, mkdir, rmdir, link, unlink, rename, list_path, stat, decide}
+use Rattle.posix_calls.specs.Decide.{open_inode, number_or, empties, open_there, write_at, replaced_at, replacing_dir, rename_to, node_description, open_path, close, pread, pwrite, truncate, mkdir, rmdir, link, unlink, rename, exchange_apart, exchange, list_path, stat, decide}
 use Rattle.posix_calls.specs.declared.call.Call.{Call}
 use Rattle.posix_calls.specs.declared.call.Call.TheVariants as call
 use Rattle.posix_calls.specs.declared.call.Flags.{Flags}
@@ -178,6 +178,14 @@ on_rename old new = on _ _ (on_said _) (λ old_names. on _ _ (on_said _) (λ new
     moves from to i true = gives _
     moves from to i false = on _ _ (on_kind _) (λ old_dir. on _ _ (on_replacing from to old_dir to.inode) (λ replaced. gives _))
 
+on_exchange : (first second : List ℕ) → AsksNone (exchange first second)
+unfolding exchange
+on_exchange first second = on _ _ (on_said _) (λ first_names. on _ _ (on_said _) (λ second_names. on _ _ (on_refuse _ _) (λ u. on _ _ (on_walk 1 [] first_names) (λ one. on _ _ (on_there _) (λ i. on _ _ (on_walk 1 [] second_names) (λ two. on _ _ (on_there _) (λ j. swaps one two i j (i == j))))))))
+  where
+    swaps : (one two : Place) (i j : ℕ) (same : Bool) → AsksNone (cond same (Gives (Tell replies.Done)) (exchange_apart one two i j))
+    swaps one two i j true = gives _
+    swaps one two i j false = on _ _ (on_refuse _ _) (λ u. gives _)
+
 on_list : (path : List ℕ) → AsksNone (list_path path)
 unfolding list_path
 on_list path = on _ _ (on_said _) (λ names. on _ _ (on_walk 1 [] names) (λ place. on _ _ (on_there _) (λ i. on _ _ (on_kind _) (λ is_dir. on _ _ (on_refuse _ _) (λ u. on _ _ (on_entries i) (λ entries. gives _))))))
@@ -232,6 +240,7 @@ same_call p bytes own (call.Rmdir path) new operation es comes effects some = sa
 same_call p bytes own (call.Link old to) new operation es comes effects some = same_found p bytes _ (on_link old to) ∙ comes
 same_call p bytes own (call.Unlink path) new operation es comes effects some = same_found p bytes _ (on_unlink path) ∙ comes
 same_call p bytes own (call.Rename old to) new operation es comes effects some = same_found p bytes _ (on_rename old to) ∙ comes
+same_call p bytes own (call.Exchange first second) new operation es comes effects some = same_found p bytes _ (on_exchange first second) ∙ comes
 same_call p bytes own (call.List path) new operation es comes effects some = same_found p bytes _ (on_list path) ∙ comes
 same_call p bytes own (call.Stat path) new operation es comes effects some = same_found p bytes _ (on_stat path) ∙ comes
 

@@ -4,7 +4,7 @@ use Rattle.std.proofs.lemmas.Bool.{false≢true, eqb-true}
 use Rattle.posix_calls.specs.Operations.{is_client, makes}
 use Rattle.posix_calls.specs.declared.call.Call.{Call}
 use Rattle.posix_calls.specs.declared.operation.Operation.{Operation}
-use Rattle.posix_calls.specs.declared.operation.Operation.TheVariants.{Tell, NewDir, NewFile, OpenFile, CloseFile, Write, Resize, RemoveDir, AddName, DropName, Move}
+use Rattle.posix_calls.specs.declared.operation.Operation.TheVariants.{Tell, NewDir, NewFile, OpenFile, CloseFile, Write, Resize, RemoveDir, AddName, DropName, Move, Exchange}
 use Rattle.posix_calls.specs.declared.operation.Replaced.TheVariants.{Nothing, OldFile, OldDir}
 use Rattle.call_effects.specs.file_graph.declared.effect.Effect.{Effect}
 use Rattle.call_effects.specs.log_record.declared.format.Record.{Record}
@@ -47,6 +47,7 @@ made_is_new names new i (DropName at x) e = absurd (false≢true e)
 made_is_new names new i (Move from to x is_dir Nothing) e = absurd (false≢true e)
 made_is_new names new i (Move from to x is_dir (OldFile j)) e = absurd (false≢true e)
 made_is_new names new i (Move from to x is_dir (OldDir j)) e = absurd (false≢true e)
+made_is_new names new i (Exchange first second x j) e = absurd (false≢true e)
 
 module _ (w : World) (h : IsCoherent w) where
   -- what a client writes no other holds

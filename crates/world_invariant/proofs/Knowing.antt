@@ -1,6 +1,6 @@
 -- What clients know, hold and have open after a call of one of them.
 use Rattle.std.proofs.Common.{◌≡◌, ◌≢◌, ◌⊎◌, inl, inr, ℕ, ◌==◌, ◌||◌, cond, Bool, true, false, List, [], ◌∷◌, ◌++◌, refl, Some, None, Option, ap, sym, ◌∙◌, subst}
-use Rattle.std.specs.Prelude.{◌&&◌, not}
+use Rattle.std.specs.Prelude.{◌&&◌, not, is_some}
 use Rattle.std.proofs.lemmas.Bool.{false≢true}
 use Rattle.std.proofs.lemmas.Bool.Decides.{eqb_tells}
 use Rattle.posix_calls.specs.Tree.{Own, Descriptors, with_own}
@@ -9,16 +9,15 @@ use Rattle.posix_calls.specs.Kinds.{opens}
 use Rattle.posix_calls.specs.declared.call.Call.{Call}
 use Rattle.posix_calls.specs.declared.descriptor.Descriptor.{Descriptor}
 use Rattle.posix_calls.specs.declared.operation.Operation.{Operation}
-use Rattle.posix_calls.specs.declared.operation.Operation.TheVariants.{Tell, NewDir, NewFile, OpenFile, CloseFile, Write, Resize, RemoveDir, AddName, DropName, Move}
+use Rattle.posix_calls.specs.declared.operation.Operation.TheVariants.{Tell, NewDir, NewFile, OpenFile, CloseFile, Write, Resize, RemoveDir, AddName, DropName, Move, Exchange}
 use Rattle.posix_calls.proofs.Sums.{same_if}
 use Rattle.call_effects.specs.file_graph.Graph.{Graph, after_effects, is_among, touches, subjects}
 use Rattle.std.proofs.lemmas.List.Concat.{flat_map-cons}
 use Rattle.call_effects.specs.file_graph.declared.effect.Effect.{Effect}
 use Rattle.call_effects.specs.Blocks.{block_after, block_acted}
-use Rattle.call_effects.specs.NodeView.{view_after}
 use Rattle.call_effects.specs.Wholes.{IsSound}
 use Rattle.call_effects.specs.Knowledge.{Knowledge, Agrees, IsPlanned, knows_after}
-use Rattle.call_effects.proofs.Blocks.{mapped}
+use Rattle.call_effects.proofs.KnownCopies.{some_after}
 use Rattle.call_effects.proofs.KnownSteps.{planned_sound}
 use Rattle.call_effects.proofs.KnownAfter.{agrees_after, other_agrees}
 use Rattle.world_invariant.specs.World.{World, has_lease, whole_graph, held_descriptors}
@@ -40,6 +39,11 @@ block_stays (e ∷ es) i b block off =
     let neither : (is_among i (subjects e) || is_among i (touches es)) ≡ false = sym (among_append i (subjects e) (touches es)) ∙ ap (is_among i) (sym (flat_map-cons subjects e es)) ∙ off in
     ap (λ t. block_after es i b (cond t (block_acted e b block) block)) (or_first (is_among i (subjects e)) (is_among i (touches es)) neither)
     ∙ block_stays es i b block (or_rest (is_among i (subjects e)) (is_among i (touches es)) neither)
+
+-- what is known is something
+is_there : {A : Type 0} (o : Option A) → is_some o ≡ true → (x : A) × (o ≡ Some x)
+is_there None some = absurd (false≢true some)
+is_there (Some x) some = (x, refl)
 
 -- ---- descriptors
 
@@ -65,6 +69,7 @@ opened_after new n own (RemoveDir at i) o e = inl e
 opened_after new n own (AddName at i) o e = inl e
 opened_after new n own (DropName at i) o e = inl e
 opened_after new n own (Move from to i is_dir replaced) o e = inl e
+opened_after new n own (Exchange first second i j) o e = inl e
 
 pub pinned_after : (book pins : ℕ → Bool) (own : Own) (new : ℕ) (operation : Operation) → IsPinned book pins own → OpensPinned pins new operation → IsPinned book pins (own_after new own operation)
 pinned_after book pins own new operation pinned opening = record {
@@ -135,7 +140,7 @@ module _ (w : World) (c : ℕ) (h : IsCoherent w) (is_c : is_client c ≡ true) 
 
   pub leased_after : IsLeased (has_lease (w.clients c)) (knows_after k new operation es)
   leased_after = record {
-    copies = λ i copy e. let was = mapped (view_after es i) (k.copies i) copy e in (h.stands c is_c).leased.copies i was.0 was.1;
+    copies = λ i copy e. let was = is_there (k.copies i) (sym (some_after es k.copies i) ∙ ap is_some e) in (h.stands c is_c).leased.copies i was.0 was.1;
     blocks = λ i b bytes e. elim (either (is_among i (touches es))) [
       | inl there ↦ writing_holds w h c i (leased i there)
       | inr clean ↦ (h.stands c is_c).leased.blocks i b bytes (sym (block_stays es i b (k.blocks i b) clean) ∙ e)

@@ -1,7 +1,8 @@
 -- Which records make a node.
-use Rattle.std.proofs.Common.{◌≡◌, inl, inr, ℕ, zero, suc, ◌≤◌, ◌||◌, cond, Bool, true, false, List, [], ◌∷◌, ◌++◌, refl, None, Option, ap, sym, ◌∙◌, arith}
+use Rattle.std.proofs.Common.{◌≡◌, inl, inr, ℕ, zero, suc, ◌≤◌, ◌||◌, cond, Bool, true, false, List, [], ◌∷◌, ◌++◌, refl, Some, None, Option, ap, sym, ◌∙◌, arith}
 use Rattle.std.proofs.lemmas.Bool.{false≢true}
-use Rattle.call_effects.specs.file_graph.Graph.{Graph, Node, after_effect, after_effects, subject_after, is_among}
+use Rattle.call_effects.specs.file_graph.Graph.{Graph, Node, acted_graph, acted_all, exchanged_entries, child_at, after_effect, after_effects, subject_after, is_among}
+use Rattle.call_effects.specs.file_graph.declared.effect.Kind.{Kind}
 use Rattle.call_effects.specs.file_graph.declared.effect.Effect.{Effect}
 use Rattle.call_effects.specs.file_graph.declared.effect.Effect.TheVariants as effect
 use Rattle.call_effects.specs.log_record.declared.format.Record.{Record}
@@ -61,14 +62,23 @@ cond_same : (b : Bool) → cond {A = Option Node} b None None ≡ None
 cond_same true = refl
 cond_same false = refl
 
+entered_none : (g : Graph) (d j : ℕ) (k : Kind) (name : List ℕ) (i : ℕ) → g i ≡ None → acted_graph g (effect.Enter d j k name) i ≡ None
+entered_none g d j k name i none = ap (λ o. cond (is_among i (d ∷ [])) (subject_after (effect.Enter d j k name) o) o) none ∙ cond_same (is_among i (d ∷ []))
+
+exchanged_none : (g : Graph) (d e : ℕ) (a b : List ℕ) (x y : Option (ℕ × Kind)) (i : ℕ) → g i ≡ None → acted_all g (exchanged_entries d a e b x y) i ≡ None
+exchanged_none g d e a b (Some x) (Some y) i none = entered_none (acted_graph g (effect.Enter d y.0 y.1 a)) e x.0 x.1 b i (entered_none g d y.0 y.1 a i none)
+exchanged_none g d e a b (Some x) None i none = none
+exchanged_none g d e a b None y i none = none
+
 effect_stays : (g : Graph) (e : Effect) (i : ℕ) → g i ≡ None → makes_node i e ≡ false → after_effect g e i ≡ None
 effect_stays g (effect.Make x k) i none e = ap (λ b. cond (b || false) (subject_after (effect.Make x k) (g i)) (g i)) e ∙ none
-effect_stays g (effect.Enter x j k name) i none e = ap (λ o. cond (is_among i (x ∷ [])) (subject_after (effect.Enter x j k name) o) o) none ∙ cond_same (is_among i (x ∷ []))
+effect_stays g (effect.Enter x j k name) i none e = entered_none g x j k name i none
 effect_stays g (effect.Leave x name) i none e = ap (λ o. cond (is_among i (x ∷ [])) (subject_after (effect.Leave x name) o) o) none ∙ cond_same (is_among i (x ∷ []))
 effect_stays g (effect.Names x n) i none e = ap (λ o. cond (is_among i (x ∷ [])) (subject_after (effect.Names x n) o) o) none ∙ cond_same (is_among i (x ∷ []))
 effect_stays g (effect.Size x size) i none e = ap (λ o. cond (is_among i (x ∷ [])) (subject_after (effect.Size x size) o) o) none ∙ cond_same (is_among i (x ∷ []))
 effect_stays g (effect.Bytes x at new) i none e = ap (λ o. cond (is_among i (x ∷ [])) (subject_after (effect.Bytes x at new) o) o) none ∙ cond_same (is_among i (x ∷ []))
 effect_stays g (effect.Drop x) i none e = ap (λ o. cond (is_among i (x ∷ [])) (subject_after (effect.Drop x) o) o) none ∙ cond_same (is_among i (x ∷ []))
+effect_stays g (effect.Swap x a y b) i none e = exchanged_none g x y a b (child_at g x a) (child_at g y b) i none
 
 pub effects_none : (g : Graph) (es : List Effect) (i : ℕ) → g i ≡ None → is_made i es ≡ false → after_effects g es i ≡ None
 effects_none g [] i none e = none

@@ -4,7 +4,7 @@ use Rattle.std.proofs.lemmas.Bool.Decides.{eqb_tells}
 use Rattle.posix_calls.specs.Tree.{Own, Descriptors}
 use Rattle.posix_calls.specs.Query.{Seen, File, Dir, Query, Gives, Look, ◌>>=◌, View, run}
 use Rattle.posix_calls.specs.Walk.{Place, leads_to}
-use Rattle.posix_calls.specs.Decide.{open_there, rename_to, write_at, node_description, mkdir, unlink, rmdir, link, rename, truncate, pwrite, pread, close, open_path, list_path, stat, decide}
+use Rattle.posix_calls.specs.Decide.{open_there, rename_to, write_at, node_description, mkdir, unlink, rmdir, link, rename, exchange_apart, exchange, truncate, pwrite, pread, close, open_path, list_path, stat, decide}
 use Rattle.posix_calls.specs.Operations.{makes}
 use Rattle.posix_calls.specs.declared.call.Call.{Call}
 use Rattle.posix_calls.specs.declared.call.Call.TheVariants as call
@@ -12,9 +12,10 @@ use Rattle.posix_calls.specs.declared.call.Flags.{Flags}
 use Rattle.posix_calls.specs.declared.call.Reply.TheVariants as replies
 use Rattle.posix_calls.specs.declared.errno.Errno.TheVariants as errno
 use Rattle.posix_calls.specs.declared.operation.Operation.{Operation}
-use Rattle.posix_calls.specs.declared.operation.Operation.TheVariants.{Tell, NewDir, NewFile, OpenFile, CloseFile, Write, Resize, RemoveDir, AddName, DropName, Move}
+use Rattle.posix_calls.specs.declared.operation.Operation.TheVariants.{Tell, NewDir, NewFile, OpenFile, CloseFile, Write, Resize, RemoveDir, AddName, DropName, Move, Exchange}
 use Rattle.posix_calls.specs.declared.operation.Replaced.TheVariants.{Nothing, OldFile, OldDir}
-use Rattle.call_effects.specs.file_graph.Graph.{Graph, Node, FileBody, after_effect, after_effects, subject_after, is_among}
+use Rattle.call_effects.specs.file_graph.Graph.{Graph, Node, FileBody, acted_graph, acted_all, exchanged_entries, child_at, after_effect, after_effects, subject_after, is_among}
+use Rattle.call_effects.specs.file_graph.declared.effect.Kind.{Kind}
 use Rattle.call_effects.specs.file_graph.declared.effect.Effect.{Effect}
 use Rattle.call_effects.specs.file_graph.declared.effect.Effect.TheVariants as effect
 use Rattle.call_effects.specs.file_graph.declared.effect.Kind.TheVariants as kind
@@ -48,15 +49,24 @@ chosen : (b : Bool) (o p : Option Node) → IsNameless o → IsNameless p → Is
 chosen true o p one other = one
 chosen false o p one other = other
 
+entered_spares : (g : Graph) (d j : ℕ) (k : Kind) (name : List ℕ) (i : ℕ) → IsNameless (g i) → IsNameless (acted_graph g (effect.Enter d j k name) i)
+entered_spares g d j k name i file = chosen (is_among i (d ∷ [])) _ _ (record { bytes = file.bytes; is = ap (subject_after (effect.Enter d j k name)) file.is }) file
+
+exchanged_spares : (g : Graph) (d e : ℕ) (a b : List ℕ) (x y : Option (ℕ × Kind)) (i : ℕ) → IsNameless (g i) → IsNameless (acted_all g (exchanged_entries d a e b x y) i)
+exchanged_spares g d e a b (Some x) (Some y) i file = entered_spares (acted_graph g (effect.Enter d y.0 y.1 a)) e x.0 x.1 b i (entered_spares g d y.0 y.1 a i file)
+exchanged_spares g d e a b (Some x) None i file = file
+exchanged_spares g d e a b None y i file = file
+
 one_spares : (g : Graph) (e : Effect) (i : ℕ) → Spares i e → IsNameless (g i) → IsNameless (after_effect g e i)
 one_spares g (effect.Make x k) i off file = record { bytes = file.bytes; is = ap (λ b. cond (b || false) (subject_after (effect.Make x k) (g i)) (g i)) off ∙ file.is }
-one_spares g (effect.Enter x j k name) i off file = chosen (is_among i (x ∷ [])) _ _ (record { bytes = file.bytes; is = ap (subject_after (effect.Enter x j k name)) file.is }) file
+one_spares g (effect.Enter x j k name) i off file = entered_spares g x j k name i file
 one_spares g (effect.Leave x name) i off file = chosen (is_among i (x ∷ [])) _ _ (record { bytes = file.bytes; is = ap (subject_after (effect.Leave x name)) file.is }) file
 one_spares g (effect.Names x n) i (inl off) file = record { bytes = file.bytes; is = ap (λ b. cond (b || false) (subject_after (effect.Names x n) (g i)) (g i)) off ∙ file.is }
 one_spares g (effect.Names x n) i (inr zero) file = chosen (is_among i (x ∷ [])) _ _ (record { bytes = file.bytes; is = ap (subject_after (effect.Names x n)) file.is ∙ ap (λ m. Some (record { names = m; body = FileBody file.bytes })) zero }) file
 one_spares g (effect.Size x size) i off file = chosen (is_among i (x ∷ [])) _ _ (record { bytes = _; is = ap (subject_after (effect.Size x size)) file.is }) file
 one_spares g (effect.Bytes x at new) i off file = chosen (is_among i (x ∷ [])) _ _ (record { bytes = _; is = ap (subject_after (effect.Bytes x at new)) file.is }) file
 one_spares g (effect.Drop x) i off file = record { bytes = file.bytes; is = ap (λ b. cond (b || false) (subject_after (effect.Drop x) (g i)) (g i)) off ∙ file.is }
+one_spares g (effect.Swap x a y b) i off file = exchanged_spares g x y a b (child_at g x a) (child_at g y b) i file
 
 all_spare : (g : Graph) (es : List Effect) (i : ℕ) → AllSpare i es → IsNameless (g i) → IsNameless (after_effects g es i)
 all_spare g [] i spare file = file
@@ -155,6 +165,14 @@ module _ (g : Graph) (d : Descriptors) where
       moves from to i true = comes _ tt
       moves from to i false = on _ _ (λ old_dir. on _ _ (λ replaced. comes _ tt))
 
+  exchange_names : (first second : List ℕ) → Comes (exchange first second)
+  unfolding exchange
+  exchange_names first second = on _ _ (λ first_names. on _ _ (λ second_names. on _ _ (λ _. on _ _ (λ one. on _ _ (λ i. on _ _ (λ two. on _ _ (λ j. swaps one two i j (i == j))))))))
+    where
+      swaps : (one two : Place) (i j : ℕ) (same : Bool) → Comes (cond same (Gives (Tell replies.Done)) (exchange_apart one two i j))
+      swaps one two i j true = comes _ tt
+      swaps one two i j false = on _ _ (λ _. comes _ tt)
+
   list_names : (path : List ℕ) → Comes (list_path path)
   unfolding list_path
   list_names path = on _ _ (λ names. on _ _ (λ place. on _ _ (λ i. on _ _ (λ is_dir. on _ _ (λ _. on _ _ (λ entries. comes _ tt))))))
@@ -184,6 +202,7 @@ module _ (g : Graph) (d : Descriptors) where
   decide_names own (call.Link old new) fair = link_names old new fair
   decide_names own (call.Unlink path) fair = unlink_names path
   decide_names own (call.Rename old new) fair = rename_names old new
+  decide_names own (call.Exchange first second) fair = exchange_names first second
   decide_names own (call.List path) fair = list_names path
   decide_names own (call.Stat path) fair = stat_names path
 
@@ -224,6 +243,7 @@ module _ (g : Graph) (d : Descriptors) where
     spared own new (Move from to x is_dir_moved Nothing) fits free fine = (tt, (tt, tt))
     spared own new (Move from to x is_dir_moved (OldFile j)) fits free fine = (tt, (fewer j, (tt, (tt, tt))))
     spared own new (Move from to x is_dir_moved (OldDir j)) fits free fine = (tt, (not_here j (is_dir j fits.2.2), (tt, (tt, tt))))
+    spared own new (Exchange first second x j) fits free fine = (tt, tt)
 
 -- a planned call gives no name to a file that has none
 pub planned_names_none : (k : Knowledge) (g : Graph) (d : Descriptors) (c : Call) (new : ℕ) (operation : Operation) (es : List Effect) → IsSound g d → Agrees k g d → IsPlanned k c new operation es → (i : ℕ) → IsNameless (g i) → IsNameless (after_effects g es i)

@@ -3,7 +3,7 @@ use Rattle.std.proofs.Common.{◌≡◌, ◌≢◌, ◌⊎◌, inl, inr, ℕ, �
 use Rattle.std.specs.Prelude.{option_map}
 use Rattle.std.proofs.lemmas.Bool.Decides.{eqb_tells}
 use Rattle.posix_calls.specs.Operations.{is_client}
-use Rattle.call_effects.specs.file_graph.Graph.{Graph, file_bytes}
+use Rattle.call_effects.specs.file_graph.Graph.{Graph, file_bytes, directory_in}
 use Rattle.call_effects.specs.log_record.declared.format.Record.{Record}
 use Rattle.call_effects.specs.Blocks.{block_of}
 use Rattle.call_effects.specs.NodeView.{view_of_node}
@@ -16,7 +16,7 @@ use Rattle.world_invariant.specs.Copies.{HasOwnCopies}
 use Rattle.world_invariant.specs.Invariant.{IsCoherent}
 use Rattle.world_invariant.specs.LeaseSteps.{own_view}
 use Rattle.world_invariant.specs.Machine.{Machine, IsRunning, Sealed, sealed_of, StandsSealed, CanDigestNext, account_after}
-use Rattle.world_invariant.proofs.Records.{alike_less, directory_in, in_rest, either, both, records_local, records_same, records_stay, records_append, front_written}
+use Rattle.world_invariant.proofs.Records.{alike_less, in_rest, either, both, records_local, records_same, records_stay, records_append, front_written}
 use Rattle.world_invariant.proofs.Owners.{whole_at}
 use Rattle.world_invariant.proofs.Made.{records_none}
 use Rattle.world_invariant.proofs.Keeping.{through}

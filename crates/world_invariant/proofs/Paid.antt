@@ -2,18 +2,18 @@
 use Rattle.std.proofs.Common.{◌≡◌, ℕ, ◌+◌, ◌≤◌, true, List, [], ◌∷◌, subst, arith}
 use Rattle.call_effects.specs.file_graph.Graph.{Graph, after_effects}
 use Rattle.call_effects.specs.file_graph.Units.{charge, growth}
-use Rattle.call_effects.proofs.file_graph_lemmas.Touches.{charge_rises}
+use Rattle.call_effects.proofs.file_graph_lemmas.Touches.{charge_rises, local}
 use Rattle.call_effects.specs.log_record.declared.format.Record.{Record}
 use Rattle.call_effects.proofs.Rises.{growth_local}
 use Rattle.world_invariant.specs.Logs.{after_records, is_touched, is_written, units_in, ArePaid}
-use Rattle.world_invariant.proofs.Records.{in_first, in_rest, local_same}
+use Rattle.world_invariant.proofs.Records.{in_first, in_rest}
 
 -- Records that are paid over one graph are so over each that has the same nodes where they write.
 pub paid_same : (rs : List Record) (g h : Graph) → ((i : ℕ) → is_written i rs ≡ true → g i ≡ h i) → ArePaid g rs → ArePaid h rs
 paid_same [] g h same paid = tt
 paid_same (r ∷ rs) g h same paid = (
   subst (λ n. n ≤ r.units) (growth_local g h r.effects (λ i e. same i (in_first (is_touched i r) (is_written i rs) e))) paid.0,
-  paid_same rs (after_effects g r.effects) (after_effects h r.effects) (λ i e. local_same g h r.effects (λ j at. same j (in_first (is_touched j r) (is_written j rs) at)) i (same i (in_rest (is_touched i r) (is_written i rs) e))) paid.1,
+  paid_same rs (after_effects g r.effects) (after_effects h r.effects) (λ i e. local g h r.effects (λ j at. same j (in_first (is_touched j r) (is_written j rs) at)) i (same i (in_rest (is_touched i r) (is_written i rs) e))) paid.1,
 )
 
 -- What records are charged is at most their units.

@@ -1,6 +1,6 @@
 -- What is said of a part depends on the shared graph only where its records write, and on its account only by what they need.
 use Rattle.std.proofs.Common.{◌≡◌, ◌≢◌, ℕ, ◌+◌, ◌-◌, ◌≤◌, Bool, true, false, List, ◌++◌, length, drop, None, sym, subst}
-use Rattle.call_effects.specs.file_graph.Graph.{Graph}
+use Rattle.call_effects.specs.file_graph.Graph.{Graph, directory_in}
 use Rattle.call_effects.specs.log_record.declared.format.Record.{Record}
 use Rattle.world_invariant.specs.Limits.{IsWithin}
 use Rattle.world_invariant.specs.Logs.{is_written, is_made_in, IsMadeOnce, units_in, IsNameless}
@@ -9,7 +9,6 @@ use Rattle.world_invariant.specs.ClientParts.{IsMarked, IsLogged, IsNumbered, Is
 use Rattle.world_invariant.specs.Machine.{Sealed, undigested_sealed, StandsSealed}
 use Rattle.world_invariant.proofs.Paid.{paid_same}
 use Rattle.world_invariant.proofs.Keeping.{keep_same, keep_less}
-use Rattle.world_invariant.proofs.Records.{directory_in}
 use Rattle.world_invariant.proofs.Reclaims.{paid_less}
 
 logged_same : (g h : Graph) (writes : ℕ → Bool) (rs : List Record) → ((i : ℕ) → is_written i rs ≡ true → g i ≡ h i) → IsLogged g writes rs → IsLogged h writes rs

@@ -6,7 +6,8 @@ use Rattle.posix_calls.specs.Tree.{Own, sum_up_to, any_up_to, refers_to, has_ope
 use Rattle.posix_calls.specs.Operations.{is_client}
 use Rattle.posix_calls.specs.declared.descriptor.Descriptor.{Descriptor}
 use Rattle.posix_calls.proofs.Sums.{same_if, there_if, any_is}
-use Rattle.call_effects.specs.file_graph.Graph.{Graph, FileBody, set_node, cost, after_effects, is_among, touches}
+use Rattle.call_effects.specs.file_graph.Graph.{Graph, FileBody, set_node, cost, after_effects, is_among, touches, directory_in}
+use Rattle.call_effects.proofs.file_graph_lemmas.Touches.{local_by_directories, directories_after}
 use Rattle.call_effects.specs.file_graph.Units.{charge, rise, growth}
 use Rattle.call_effects.specs.file_graph.declared.effect.Effect.{Effect}
 use Rattle.call_effects.specs.log_record.declared.format.Record.{Record}
@@ -19,7 +20,7 @@ use Rattle.world_invariant.specs.Limits.{IsWithin}
 use Rattle.world_invariant.specs.World.{Begun, World, change_of, log_of, all_of, whole_graph, held_descriptors, world_state}
 use Rattle.world_invariant.specs.Invariant.{IsCoherent}
 use Rattle.world_invariant.specs.KernelSteps.{CanReclaim, after_reclaim}
-use Rattle.world_invariant.proofs.Records.{either, both, or_first, or_rest, directory_in, alike_less, local, directories_after, records_local}
+use Rattle.world_invariant.proofs.Records.{either, both, or_first, or_rest, alike_less, records_local}
 use Rattle.world_invariant.proofs.Owners.{client_is, owner_of, whole_at}
 use Rattle.world_invariant.proofs.Idle.{none_some}
 use Rattle.world_invariant.proofs.Made.{effects_none, clients_none, unmade_append}
@@ -62,7 +63,7 @@ module _ (i : ℕ) where
             omega (arith, nothing)
         | inr off ↦
             let before : cost (h j) ≡ cost (g j) = ap cost (same j off.1) in
-            let after : cost (after_effects h es j) ≡ cost (after_effects g es j) = ap cost (local h g es (λ k at. alike_less i g h bare none same k) j (same j off.1)) in
+            let after : cost (after_effects h es j) ≡ cost (after_effects g es j) = ap cost (local_by_directories h g es (λ k at. alike_less i g h bare none same k) j (same j off.1)) in
             omega (arith, before, after)
       ])
 
@@ -74,7 +75,7 @@ module _ (i : ℕ) where
       let less : growth h r.effects ≤ growth g r.effects = growth_less g h r.effects bare none same (or_first (is_made i r.effects) (is_made_in i rs) unmade) in
       let enough : growth g r.effects ≤ r.units = paid.0 in (
         omega (arith, less, enough),
-        paid_less rs (after_effects g r.effects) (after_effects h r.effects) (sym (directories_after h g r.effects (λ k at. alike k) i (alike i)) ∙ ap directory_in still) still (λ j off. local h g r.effects (λ k at. alike k) j (same j off)) (or_rest (is_made i r.effects) (is_made_in i rs) unmade) paid.1,
+        paid_less rs (after_effects g r.effects) (after_effects h r.effects) (sym (directories_after h g r.effects (λ k at. alike k) i (alike i)) ∙ ap directory_in still) still (λ j off. local_by_directories h g r.effects (λ k at. alike k) j (same j off)) (or_rest (is_made i r.effects) (is_made_in i rs) unmade) paid.1,
       )
 
 -- what is open is pinned in the book

@@ -1,16 +1,10 @@
--- Records at one inode: what they make of it depends on what stands there alone, and who doesn't touch it leaves it.
+-- Records at one inode: what they make of it depends on what stands there and on the directories at what they write, and who doesn't touch it leaves it.
 use Rattle.std.proofs.Common.{◌≡◌, ◌≢◌, ◌⊎◌, inl, inr, ℕ, ◌+◌, ◌||◌, Bool, true, false, List, [], ◌∷◌, ◌++◌, refl, ap, sym, ◌∙◌, arith}
 use Rattle.std.proofs.lemmas.Bool.{false≢true}
 use Rattle.std.proofs.lemmas.Bool.Decides.{eqb_tells}
-use Rattle.std.specs.Prelude.{option_map, cond, Option, Some, None}
-use Rattle.std.specs.FinMap as fin
-use Rattle.posix_calls.specs.Content.{Entries}
-use Rattle.call_effects.specs.file_graph.declared.effect.Kind.{Kind}
-use Rattle.call_effects.specs.file_graph.declared.effect.Kind.TheVariants as kind
-use Rattle.call_effects.specs.file_graph.declared.effect.Effect.{Effect}
-use Rattle.call_effects.specs.file_graph.declared.effect.Effect.TheVariants as effect
-use Rattle.call_effects.specs.file_graph.Graph.{Graph, Node, FileBody, DirBody, subjects, touches, is_among, subject_after, after_effect, after_effects}
-use Rattle.call_effects.proofs.file_graph_lemmas.Touches.{untouched, alone}
+use Rattle.std.specs.Prelude.{None}
+use Rattle.call_effects.specs.file_graph.Graph.{Graph, StandAlike, directory_in, touches, after_effects}
+use Rattle.call_effects.proofs.file_graph_lemmas.Touches.{untouched, local_by_directories, directories_after}
 use Rattle.call_effects.specs.log_record.declared.format.Record.{Record}
 use Rattle.world_invariant.specs.Logs.{after_records, is_touched, is_written, units_in}
 
@@ -58,77 +52,22 @@ append_nil (x ∷ xs) = ap (λ ys. x ∷ ys) (append_nil xs)
 
 -- ---- records at one inode
 
--- ---- graphs in which the same directories stand
-
-abbrev pub Child : Type 0
-Child = ℕ × Kind
-
-abbrev pub directory_in : Option Node → Option (Entries Child)
-directory_in None = None
-directory_in (Some n) = elim (n.body) [ FileBody bytes ↦ None | DirBody entries ↦ Some entries ]
-
-abbrev directory_after : Effect → Option (Entries Child) → Option (Entries Child)
-directory_after (effect.Make i kind.File) old = None
-directory_after (effect.Make i kind.Directory) old = Some fin.empty
-directory_after (effect.Enter d i k name) old = option_map (λ es. fin.insert es name (i, k)) old
-directory_after (effect.Leave d name) old = option_map (λ es. fin.remove es name) old
-directory_after (effect.Names i n) old = old
-directory_after (effect.Size i size) old = old
-directory_after (effect.Bytes i at new) old = old
-directory_after (effect.Drop i) old = None
-
-directory_acts : (e : Effect) (o : Option Node) → directory_in (subject_after e o) ≡ directory_after e (directory_in o)
-directory_acts (effect.Make i kind.File) o = refl
-directory_acts (effect.Make i kind.Directory) o = refl
-directory_acts (effect.Enter d i k name) None = refl
-directory_acts (effect.Enter d i k name) (Some n) = elim (n.body) as (λ y. directory_in (subject_after (effect.Enter d i k name) (Some (record { names = n.names; body = y }))) ≡ directory_after (effect.Enter d i k name) (directory_in (Some (record { names = n.names; body = y })))) [ FileBody bytes ↦ refl | DirBody es ↦ refl ]
-directory_acts (effect.Leave d name) None = refl
-directory_acts (effect.Leave d name) (Some n) = elim (n.body) as (λ y. directory_in (subject_after (effect.Leave d name) (Some (record { names = n.names; body = y }))) ≡ directory_after (effect.Leave d name) (directory_in (Some (record { names = n.names; body = y })))) [ FileBody bytes ↦ refl | DirBody es ↦ refl ]
-directory_acts (effect.Names i m) None = refl
-directory_acts (effect.Names i m) (Some n) = refl
-directory_acts (effect.Size i size) None = refl
-directory_acts (effect.Size i size) (Some n) = elim (n.body) as (λ y. directory_in (subject_after (effect.Size i size) (Some (record { names = n.names; body = y }))) ≡ directory_in (Some (record { names = n.names; body = y }))) [ FileBody bytes ↦ refl | DirBody es ↦ refl ]
-directory_acts (effect.Bytes i at new) None = refl
-directory_acts (effect.Bytes i at new) (Some n) = elim (n.body) as (λ y. directory_in (subject_after (effect.Bytes i at new) (Some (record { names = n.names; body = y }))) ≡ directory_in (Some (record { names = n.names; body = y }))) [ FileBody bytes ↦ refl | DirBody es ↦ refl ]
-directory_acts (effect.Drop i) o = refl
-
--- the same directories stand at these inodes
-abbrev pub AlikeAt : (ℕ → Bool) → Graph → Graph → Type 0
-AlikeAt at g h = (j : ℕ) → at j ≡ true → directory_in (g j) ≡ directory_in (h j)
-
--- (stands for the clause of file_graph)
-pub local : (g h : Graph) (es : List Effect) → AlikeAt (λ j. is_among j (touches es)) g h → (i : ℕ) → g i ≡ h i → after_effects g es i ≡ after_effects h es i
-local g h es alike i e = alone g h es i e
-
-directory_step : (g h : Graph) (e : Effect) (j : ℕ) → directory_in (g j) ≡ directory_in (h j) → directory_in (after_effect g e j) ≡ directory_in (after_effect h e j)
-directory_step g h e j same = elim (is_among j (subjects e)) as (λ b. directory_in (cond b (subject_after e (g j)) (g j)) ≡ directory_in (cond b (subject_after e (h j)) (h j))) [
-  | true ↦ directory_acts e (g j) ∙ ap (directory_after e) same ∙ sym (directory_acts e (h j))
-  | false ↦ same
-]
-
-directory_steps : (g h : Graph) (es : List Effect) (j : ℕ) → directory_in (g j) ≡ directory_in (h j) → directory_in (after_effects g es j) ≡ directory_in (after_effects h es j)
-directory_steps g h [] j same = same
-directory_steps g h (e ∷ es) j same = directory_steps (after_effect g e) (after_effect h e) es j (directory_step g h e j same)
-
--- (stands for a clause of file_graph)
-pub directories_after : (g h : Graph) (es : List Effect) → AlikeAt (λ j. is_among j (touches es)) g h → (j : ℕ) → directory_in (g j) ≡ directory_in (h j) → directory_in (after_effects g es j) ≡ directory_in (after_effects h es j)
-directories_after g h es alike j same = directory_steps g h es j same
+-- the same directories stand at what records write
+abbrev WriteAlike : List Record → Graph → Graph → Type 0
+WriteAlike rs g h = (j : ℕ) → is_written j rs ≡ true → directory_in (g j) ≡ directory_in (h j)
 
 -- records make the same of an inode in which the same stands, where the same directories stand at what they write
-pub records_local : (g h : Graph) (rs : List Record) → AlikeAt (λ j. is_written j rs) g h → (i : ℕ) → g i ≡ h i → after_records g rs i ≡ after_records h rs i
+pub records_local : (g h : Graph) (rs : List Record) → WriteAlike rs g h → (i : ℕ) → g i ≡ h i → after_records g rs i ≡ after_records h rs i
 records_local g h [] alike i e = e
 records_local g h (r ∷ rs) alike i e =
-    let first : AlikeAt (λ j. is_touched j r) g h = λ j there. alike j (in_first (is_touched j r) (is_written j rs) there) in
+    let first : StandAlike (touches r.effects) g h = λ j there. alike j (in_first (is_touched j r) (is_written j rs) there) in
     records_local (after_effects g r.effects) (after_effects h r.effects) rs
     (λ j there. directories_after g h r.effects first j (alike j (in_rest (is_touched j r) (is_written j rs) there)))
-    i (local g h r.effects first i e)
+    i (local_by_directories g h r.effects first i e)
 
 -- where the same stands at what they write
 pub records_same : (g h : Graph) (rs : List Record) → ((j : ℕ) → is_written j rs ≡ true → g j ≡ h j) → (i : ℕ) → g i ≡ h i → after_records g rs i ≡ after_records h rs i
 records_same g h rs same = records_local g h rs (λ j there. ap directory_in (same j there))
-
-pub local_same : (g h : Graph) (es : List Effect) → ((j : ℕ) → is_among j (touches es) ≡ true → g j ≡ h j) → (i : ℕ) → g i ≡ h i → after_effects g es i ≡ after_effects h es i
-local_same g h es same = local g h es (λ j there. ap directory_in (same j there))
 
 -- a graph that lacks what is no directory has the same directories
 pub alike_less : (i : ℕ) (g h : Graph) → directory_in (g i) ≡ None → h i ≡ None → ((j : ℕ) → j ≢ i → h j ≡ g j) → (j : ℕ) → directory_in (h j) ≡ directory_in (g j)

@@ -9,6 +9,7 @@ use Rattle.posix_calls.specs.Operations.{own_after}
 use Rattle.posix_calls.proofs.Counts.{order}
 use Rattle.posix_calls.specs.WellFormed.{IsWithinLimits}
 use Rattle.posix_calls.specs.declared.call.Call.{Call}
+use Rattle.posix_calls.specs.declared.limits.TheConstants.{MAX_FILE}
 use Rattle.posix_calls.specs.declared.operation.Operation.{Operation}
 use Rattle.call_effects.specs.file_graph.Graph.{Graph, Node, FileBody, DirBody, after_effects}
 use Rattle.call_effects.specs.file_graph.declared.effect.Kind.{Kind}
@@ -29,9 +30,9 @@ few_names : (i : ℕ) (o : Option Node) → IsWithin i o → stored_count o ≤ 
 few_names i None within = omega arith
 few_names i (Some n) within = within.names
 
-small : (i : ℕ) (o : Option Node) → IsWithin i o → length (bytes_of (option_map tree_node o)) ≤ 1048576
+small : (i : ℕ) (o : Option Node) → IsWithin i o → length (bytes_of (option_map tree_node o)) ≤ MAX_FILE
 small i None within = omega arith
-small i (Some n) within = elim (n.body) as (λ y. n.body ≡ y → length (bytes_of (Some (tree_body y))) ≤ 1048576) [
+small i (Some n) within = elim (n.body) as (λ y. n.body ≡ y → length (bytes_of (Some (tree_body y))) ≤ MAX_FILE) [
   | FileBody bytes ↦ λ is. subst IsBodyWithin is within.body
   | DirBody es ↦ λ is. omega arith
 ] refl
@@ -85,7 +86,7 @@ module _ (g : Graph) (d : Descriptors) (sound : IsSound g d) (within : IsWithinL
 
   body_within : (n : Node) → g i ≡ Some n → IsBodyWithin n.body
   body_within n is = elim (n.body) as (λ y. n.body ≡ y → IsBodyWithin y) [
-    | FileBody bytes ↦ λ b. subst (λ o. length (bytes_of (option_map tree_node o)) ≤ 1048576) (is ∙ ap (λ y. Some (record { names = n.names; body = y })) b) (within.sizes i)
+    | FileBody bytes ↦ λ b. subst (λ o. length (bytes_of (option_map tree_node o)) ≤ MAX_FILE) (is ∙ ap (λ y. Some (record { names = n.names; body = y })) b) (within.sizes i)
     | DirBody es ↦ λ b. entries_within n es (is ∙ ap (λ y. Some (record { names = n.names; body = y })) b)
   ] refl
 

@@ -2,7 +2,8 @@ use Rattle.std.proofs.Common.{slice_set}
 use Rattle.std.proofs.lemmas.Result.{IfErr-weaker}
 use Rattle.std.proofs.lemmas.Option.{slice_get-get_or}
 use Rattle.area_recovery.proofs.RegionReads.{one_read}
-use Rattle.area_recovery.proofs.RegionRow.{risen_at, set_here}
+use Rattle.area_recovery.proofs.ChangedRows.{set_here}
+use Rattle.area_recovery.proofs.RegionRow.{risen_at}
 use Rattle.area_recovery.proofs.log_search.read_at.Goals as goal
 
 pub returns-clause-same : goal.returns-clause-same

@@ -1,6 +1,6 @@
 use Rattle.std.proofs.Common.{◌≡◌, ◌++◌, ◌∷◌, [], List, length, ap, sym, ◌∙◌, arith, append-nil, append_assoc, length-append}
 use Rattle.interleavings.specs.event_steps.View.{SeatView}
-use Rattle.area_recovery.specs.PartMedia.{regions_of_seats}
+use Rattle.recovery.specs.SeatRegions.{regions_of_seats}
 use Rattle.recovery.proofs.OpenedSeats.{none_left}
 use Rattle.recovery.proofs.SystemParts.{push_seat}
 use Rattle.recovery.proofs.disassembly.put_regions.Goals as goal

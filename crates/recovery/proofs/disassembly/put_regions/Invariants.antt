@@ -1,7 +1,7 @@
 use Rattle.std.proofs.Common.{◌≡◌, ◌≤◌, ◌+◌, ◌*◌, ◌++◌, length}
 use Rattle.std.specs.Vec.{vec_len, vec_capacity}
 use Rattle.std.specs.Vec.Iter.{into_iter_items, into_iter_len}
-use Rattle.area_recovery.specs.PartMedia.{regions_of_seats}
+use Rattle.recovery.specs.SeatRegions.{regions_of_seats}
 use Rattle.recovery.proofs.disassembly.put_regions.Given as goal
 
 abbrev pub invariant-loop-seat : goal.invariant-loop-seat

@@ -5,7 +5,7 @@ use Rattle.interleavings.specs.batch_journal.View.{JournalView}
 use Rattle.interleavings.specs.update_log.View.{RegionView}
 use Rattle.interleavings.specs.system_laws.Parts.{medium_of}
 use Rattle.area_recovery.specs.Parts.{PartsView}
-use Rattle.area_recovery.specs.PartMedia.{regions_of_seats}
+use Rattle.recovery.specs.SeatRegions.{regions_of_seats}
 use Rattle.area_recovery.specs.Regions.{media_of}
 use Rattle.recovery.proofs.SystemParts.{parts_are, sixteen_regions}
 use Rattle.recovery.proofs.disassembly.take_apart.Goals as goal

@@ -2,10 +2,10 @@ use Rattle.std.proofs.Common.{◌≡◌, sym, subst, arith}
 use Rattle.std.proofs.lemmas.Result.{IfErr-weaker, IfOk-weaker}
 use Rattle.interleavings.specs.system_laws.Parts.{medium_of}
 use Rattle.area_recovery.specs.declared.error.RecoveryError.TheVariants.{DeviceFault}
-use Rattle.recovery.specs.FreshContents.{AreFreshRegions, AreLater}
+use Rattle.area_recovery.specs.FreshContents.{AreFreshRegions, AreLater}
 use Rattle.area_recovery.specs.Parts.{PartsView, part_medium}
 use Rattle.area_recovery.specs.PartMedia.{SomeRose}
-use Rattle.recovery.proofs.PartRows.{after, all_later_on, earlier_rises, slice_left, written_later, written_rose}
+use Rattle.area_recovery.proofs.PartRows.{after, all_later_on, earlier_rises, slice_left, written_later, written_rose}
 use Rattle.recovery.proofs.fresh_world.format.Goals as goal
 
 pub open_fresh-requires-clause-regions : goal.open_fresh-requires-clause-regions

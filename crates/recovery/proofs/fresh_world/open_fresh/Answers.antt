@@ -15,14 +15,15 @@ use Rattle.interleavings.specs.call_effects.ClosedGraph.{nobody}
 use Rattle.interleavings.specs.call_effects.Wholes.{state_of}
 use Rattle.posix_calls.specs.EmptyTree.{empty_state}
 use Rattle.area_recovery.specs.declared.error.RecoveryError.TheVariants.{DeviceFault}
-use Rattle.recovery.specs.FreshContents.{AreLater, HoldsContent, IsLater, fresh_contents}
+use Rattle.area_recovery.specs.FreshContents.{AreLater, HoldsContent, IsLater, fresh_contents}
 use Rattle.area_recovery.specs.Parts.{PartsView, part_medium}
 use Rattle.area_recovery.specs.PartMedia.{AreUntouched, SomeRose, media_beneath}
-use Rattle.area_recovery.specs.RecoveryStops.{IsIdle}
+use Rattle.recovery.specs.WorldRecovery.{IsIdle}
 use Rattle.area_recovery.specs.Regions.{IsGivenBack}
-use Rattle.recovery.proofs.FreshMedia.{all_rest, all_sized, area_holds, area_ready, fresh_marks, geometry_is, graph_is, later_by_recovery, marks_are, no_damage_there, no_size_there, opens_not, regions_ready}
-use Rattle.recovery.proofs.FreshWorlds.{beneath_later, given_later, parts_hold, parts_later}
-use Rattle.recovery.proofs.PartRows.{earlier_rises, region_rose, shared_later, shared_rose, zip_long}
+use Rattle.area_recovery.proofs.FreshMedia.{all_rest, all_sized, area_holds, area_ready, fresh_marks, geometry_is, graph_is, later_by_recovery, marks_are, no_damage_there, no_size_there, opens_not, regions_ready}
+use Rattle.area_recovery.proofs.FreshWorlds.{beneath_later, given_later, parts_hold, parts_later}
+use Rattle.area_recovery.proofs.PartRows.{earlier_rises, region_rose, shared_later, zip_long}
+use Rattle.area_recovery.proofs.RisenFaults.{shared_rose}
 use Rattle.recovery.proofs.fresh_world.open_fresh.Goals as goal
 
 pub returns-in-Err-clause-only : goal.returns-in-Err-clause-only
@@ -47,7 +48,7 @@ pub returns-in-Err-clause-fault : goal.returns-in-Err-clause-fault
 returns-in-Err-clause-fault g c is =
     let m = g.M.Media in
     let old : PartsView _ = record { shared = c.args.shared; regions = c.args.media.items } in
-    subst (λ (v : PartsView _). SomeRose m (part_medium old) (part_medium v)) (sym (c.of.ensures)) (shared_rose m old _ (c.in-Err.ensures.fault is))
+    subst (λ (v : PartsView _). SomeRose m (part_medium old) (part_medium v)) (sym (c.of.ensures)) (shared_rose m (part_medium old) _ (c.in-Err.ensures.fault is))
 
 pub reopen_regions-requires : goal.reopen_regions-requires
 reopen_regions-requires g c = record { rest = all_rest g.M.Media c.args.media.items c.requires.regions }
@@ -187,4 +188,4 @@ returns-in-Err-reopen_regions-clause-fault g c is =
     let back = c.reopen_regions.new.media.items in
     let old : PartsView _ = record { shared = c.args.shared; regions = media } in
     subst (λ (v : PartsView _). SomeRose m (part_medium old) (part_medium v)) (sym (c.of-in-Err-reopen_regions.ensures))
-    (region_rose m old _ c.requires.sixteen (sym (zip_long (IsGivenBack m) media back c.in-Err-reopen_regions.ensures.back) ∙ c.requires.sixteen) (c.in-Err-reopen_regions.ensures.fault is))
+    (region_rose m old _ c.requires.sixteen (c.in-Err-reopen_regions.ensures.fault is))

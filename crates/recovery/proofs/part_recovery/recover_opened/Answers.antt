@@ -1,9 +1,9 @@
 use Rattle.std.proofs.Common.{rules, ◌≡◌, ℕ, ◌/◌, List, ◌++◌, length, ap, sym, ◌∙◌, subst}
 use Rattle.std.specs.Prelude.{drop, slice_get, slice_index, take, Some}
 use Rattle.interleavings.specs.update_log.View.{RegionView}
-use Rattle.recovery.specs.Assembly.{AreReadyRegions}
+use Rattle.area_recovery.specs.ReadyParts.{AreReadyRegions}
 use Rattle.interleavings.specs.area_reader.Store.{disk}
-use Rattle.interleavings.specs.system_laws.Contents.{log_in}
+use Rattle.area_recovery.specs.recovery_laws.Contents.{log_in}
 use Rattle.area_recovery.specs.Parts.{PartsView, contents_of, part_medium}
 use Rattle.area_recovery.specs.PartMedia.{AreUntouched, SomeRose, media_beneath}
 use Rattle.area_recovery.specs.RecoveryStops.{AreGivenBack}

@@ -1,13 +1,15 @@
 use Rattle.std.proofs.Common.{◌≡◌, inl, inr, ℕ, suc, ◌<◌, ◌≤◌, sym, ◌∙◌, subst, arith}
-use Rattle.interleavings.specs.system_laws.Contents.{log_in, regions_in, stored_state}
+use Rattle.area_recovery.specs.recovery_laws.Contents.{log_in, regions_in, stored_state}
 use Rattle.interleavings.specs.event_lists.Courses.{PARTS}
 use Rattle.area_recovery.specs.Parts.{AreAtRest, PartsView, contents_of, part_medium}
 use Rattle.area_recovery.specs.PartMedia.{media_beneath}
-use Rattle.area_recovery.specs.RecoveryStops.{AreGivenBack, IsRecoveredWorld}
+use Rattle.area_recovery.specs.RecoveryStops.{AreGivenBack}
+use Rattle.recovery.specs.WorldRecovery.{IsRecoveredWorld}
 use Rattle.area_recovery.specs.Regions.{IsGivenBack, media_of}
 use Rattle.tier_device.specs.declared.media.Tier.TheVariants.{Fast}
-use Rattle.area_recovery.proofs.JoinedWorlds.{joined_back, joined_world, logs_same}
-use Rattle.recovery.proofs.OpenedParts.{all_given, all_reopened, all_same, denied_never, faults_then, open_regions, opened_back, opened_store, region_same, regions_alike, rests_each}
+use Rattle.area_recovery.proofs.JoinedContents.{joined_back, logs_same}
+use Rattle.recovery.proofs.JoinedWorlds.{joined_world}
+use Rattle.area_recovery.proofs.OpenedParts.{all_given, all_reopened, all_same, denied_never, faults_then, open_regions, opened_back, opened_store, region_same, regions_alike, rests_each}
 use Rattle.area_recovery.proofs.RegionMedia.{zip_length}
 use Rattle.area_recovery.proofs.SettlementPhases.{of_err, of_ok}
 use Rattle.area_recovery.proofs.WholeContents.{whole_recovers}

@@ -2,7 +2,7 @@ use Rattle.std.proofs.Common.{◌≡◌, ◌+◌, ◌/◌, ◌<◌, ◌∙◌, S
 use Rattle.std.specs.Prelude.{get_or, slice_get}
 use Rattle.std.proofs.lemmas.List.{length-set}
 use Rattle.std.proofs.lemmas.Option.{slice_get_within}
-use Rattle.world_files.proofs.recovery_lemmas.ChangedRows.{below_more, each_more, rest_more, there}
+use Rattle.world_files.proofs.area_recovery_lemmas.ChangedRows.{below_more, each_more, rest_more, there}
 use Rattle.world_files.proofs.area_recovery_lemmas.SettlementPhases.{passed_on}
 use Rattle.workload_cli.specs.Rests.{LeavesNoMore}
 use Rattle.workload_cli.specs.Fills.{IsRestBy, fill_for}

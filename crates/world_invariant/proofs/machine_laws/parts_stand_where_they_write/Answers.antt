@@ -1,5 +1,5 @@
 use Rattle.std.proofs.Common.{ap}
-use Rattle.world_invariant.proofs.Records.{directory_in}
+use Rattle.call_effects.specs.file_graph.Graph.{directory_in}
 use Rattle.world_invariant.proofs.PartsStand.{stands_same, stands_less, stands_account, sealed_same, sealed_less, sealed_account, sealed_leases}
 use Rattle.world_invariant.proofs.machine_laws.parts_stand_where_they_write.Goals as goal
 
