@@ -3,6 +3,7 @@ use Rattle.coalescer.specs.graph_change.View.{changes_of}
 use Rattle.shared_area.specs.layout.Marks.{fits_marks}
 use Rattle.shared_area.specs.layout.declared.marks.Marks.{Marks}
 use Rattle.shared_area.specs.area_reader.Store.{disk, graph}
+use Rattle.shared_area.proofs.Leads.{names_lead}
 use Rattle.shared_area.proofs.Sound.{found_change}
 use Rattle.digester.proofs.Runs as runs
 use Rattle.digester.proofs.chunk_digest.apply_run.Goals as goal
@@ -11,7 +12,8 @@ pub apply-requires-clause-bounded : goal.apply-requires-clause-bounded
 apply-requires-clause-bounded g c =
     let old = c.args.area.now in
     let r = c.requires.run in
-    runs.bounded r.0 old.geometry.units (graph old.geometry (disk g.M.Media old)) r.1 (changes_of c.args.change.now) r.2
+    let s = disk g.M.Media old in
+    runs.bounded r.0 old.geometry.units (graph old.geometry s) r.1 (changes_of c.args.change.now) r.2 (names_lead old.geometry s (c.left_now.ensures.opens c.requires.going))
 
 pub apply-requires-clause-tidy : goal.apply-requires-clause-tidy
 apply-requires-clause-tidy g c =
