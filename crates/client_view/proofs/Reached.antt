@@ -6,6 +6,7 @@ use Rattle.std.proofs.lemmas.List.{take_all, drop_all}
 use Rattle.std.proofs.lemmas.Bool.Decides.{nat_tests}
 use Rattle.posix_calls.specs.Content.{with_bytes}
 use Rattle.client_plan.specs.file_graph.Graph.{is_among, subjects}
+use Rattle.client_plan.specs.file_graph.Subject.{subject}
 use Rattle.client_plan.specs.file_graph.declared.effect.Effect.{Effect}
 use Rattle.client_plan.specs.file_graph.declared.effect.Effect.TheVariants as effect
 use Rattle.client_plan.specs.log_record.declared.format.Record.{Record}
@@ -69,8 +70,22 @@ written_reach j at new i b (Some block) short is =
       | inr more ↦ begins_behind at b new block short more.1 more.0
     ]))
 
-pub subject_reach : (e : Effect) (j : ℕ) → subjects e ≡ j ∷ [] → IsReachOf (e ∷ []) (reach.OneInode j)
-subject_reach e j alone i b block short is = ap (λ t. cond t (block_acted e b block) block) (ap (is_among i) alone ∙ on_one i j ∙ is)
+-- a Swap changes no block
+none_swapped : (d : ℕ) (a : List ℕ) (e : ℕ) (n : List ℕ) (s : RecordReach) → IsReachOf (effect.Swap d a e n ∷ []) s
+none_swapped d a e n s i b block short is = unless (is_among i (d ∷ e ∷ [])) block block (λ same. refl)
+
+alone_reach : (e : Effect) (j : ℕ) → subjects e ≡ j ∷ [] → IsReachOf (e ∷ []) (reach.OneInode j)
+alone_reach e j alone i b block short is = ap (λ t. cond t (block_acted e b block) block) (ap (is_among i) alone ∙ on_one i j ∙ is)
+
+pub subject_reach : (e : Effect) → IsReachOf (e ∷ []) (reach.OneInode (subject e))
+subject_reach (effect.Swap d a e n) = none_swapped d a e n (reach.OneInode d)
+subject_reach (effect.Make i k) = alone_reach (effect.Make i k) i refl
+subject_reach (effect.Enter d i k name) = alone_reach (effect.Enter d i k name) d refl
+subject_reach (effect.Leave d name) = alone_reach (effect.Leave d name) d refl
+subject_reach (effect.Names i n) = alone_reach (effect.Names i n) i refl
+subject_reach (effect.Size i size) = alone_reach (effect.Size i size) i refl
+subject_reach (effect.Bytes i at new) = alone_reach (effect.Bytes i at new) i refl
+subject_reach (effect.Drop i) = alone_reach (effect.Drop i) i refl
 
 -- ---- records and their reaches
 
