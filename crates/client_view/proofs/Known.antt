@@ -11,6 +11,7 @@ use Rattle.client_plan.specs.call_effects.Knowledge.{with_copy}
 use Rattle.posix_calls.specs.Own.{own_of}
 use Rattle.posix_calls.specs.Tree.{set_own}
 use Rattle.posix_calls.specs.declared.descriptor.Descriptor.{Descriptor}
+use Rattle.posix_calls.specs.declared.limits.TheConstants.{UNIT_BYTES}
 use Rattle.client_view.specs.KnowledgeTables.{Held, copy_at, size_known, kept_at, block_by, block_known, knows}
 use Rattle.client_view.specs.KnowledgeChanges.{with_descriptor, without_blocks, without_blocks_at, without_inode}
 use Rattle.client_view.specs.AfterRecord.{without_touched}
@@ -59,7 +60,7 @@ mapped_if false f o = refl
 
 known_apart : (s : Option ℕ) (gone : ℕ → Bool) (bs : List Block) (i b : ℕ) → block_by s (apart gone bs) i b ≡ cond (gone i) None (block_by s bs i b)
 known_apart None gone bs i b = sym (same_if (gone i) None)
-known_apart (Some size) gone bs i b = ap (option_map (take (size - 4096 * b))) (kept_apart gone bs i b) ∙ mapped_if (gone i) (take (size - 4096 * b)) (kept_at bs i b)
+known_apart (Some size) gone bs i b = ap (option_map (take (size - UNIT_BYTES * b))) (kept_apart gone bs i b) ∙ mapped_if (gone i) (take (size - UNIT_BYTES * b)) (kept_at bs i b)
 
 unless_gone : (t : Bool) (x y : Option (List ℕ)) → (t ≡ false → x ≡ y) → cond t None x ≡ cond t None y
 unless_gone true x y same = refl

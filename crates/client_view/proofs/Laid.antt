@@ -4,6 +4,7 @@ use Rattle.std.specs.Prelude.{option_map, unwrap_or}
 use Rattle.std.specs.FinMap as fin
 use Rattle.std.proofs.Math.Seq.{drop-nil}
 use Rattle.posix_calls.specs.Content.{Entries, with_length, with_bytes}
+use Rattle.posix_calls.specs.declared.limits.TheConstants.{UNIT_BYTES}
 use Rattle.client_plan.specs.file_graph.Graph.{Graph, Node, FileBody, DirBody, acted_all, acted_graph, after_effect, after_effects, child_at, exchanged_entries, file_bytes, in_directory, in_file, is_among, subject_after, subjects, with_body}
 use Rattle.client_plan.specs.file_graph.declared.effect.Effect.{Effect}
 use Rattle.client_plan.specs.file_graph.declared.effect.Effect.TheVariants as effect
@@ -43,7 +44,7 @@ changed f h b acts o block told bytes is =
 told_acted : (e : Effect) (b : ℕ) (o : Option Node) (block : Option (List ℕ)) → IsTold b o block → IsTold b (subject_after e o) (block_acted e b block)
 told_acted (effect.Make i kind.File) b o block told bytes is =
     let none : [] ≡ bytes = cc in
-    sym (ap (λ xs. Some (take 4096 xs)) (drop-nil (4096 * b))) ∙ ap (λ xs. Some (block_of b xs)) none
+    sym (ap (λ xs. Some (take UNIT_BYTES xs)) (drop-nil (UNIT_BYTES * b))) ∙ ap (λ xs. Some (block_of b xs)) none
 told_acted (effect.Make i kind.Directory) b o block told bytes is = absurd (cc)
 told_acted (effect.Enter d i k name) b o block told bytes is = told bytes (sym (entries_keep (λ es. fin.insert es name (i, k)) o) ∙ is)
 told_acted (effect.Leave d name) b o block told bytes is = told bytes (sym (entries_keep (λ es. fin.remove es name) o) ∙ is)
