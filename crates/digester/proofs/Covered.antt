@@ -62,24 +62,24 @@ both_after g h es i alike =
     joined (view_at (after_effects g es) i) (view_after es i (view_at h i)) (view_at (after_effects h es) i) (alike_after g es i (view_at h i) alike)
     (turned (view_at (after_effects h es) i) (view_after es i (view_at h i)) (alike_after h es i (view_at h i) (itself (view_at h i))))
 
+-- limits of numbers
+abbrev AreLow : Option NodeCounts → Type 0
+AreLow None = Unit {0}
+AreLow (Some (counts.File names size)) = (names ≤ MAX_NAMES) × (size ≤ MAX_FILE)
+AreLow (Some (counts.Directory names entries)) = (names ≤ MAX_NAMES) × (entries ≤ MAX_ENTRIES)
+
+by_limits : (v : Option NodeView) → KeepsLimits v → AreLow (option_map counts_of v)
+by_limits None keeps = keeps
+by_limits (Some (FileView names size)) keeps = keeps
+by_limits (Some (DirView names entries)) keeps = keeps
+
+limits_by : (v : Option NodeView) → AreLow (option_map counts_of v) → KeepsLimits v
+limits_by None low = low
+limits_by (Some (FileView names size)) low = low
+limits_by (Some (DirView names entries)) low = low
+
 same_limits : (v w : Option NodeView) → option_map counts_of v ≡ option_map counts_of w → KeepsLimits v → KeepsLimits w
-same_limits v w same keeps = limits_by w (subst IsWithin same (by_limits v keeps))
-  where
-    -- limits of numbers
-    abbrev IsWithin : Option NodeCounts → Type 0
-    IsWithin None = Unit {0}
-    IsWithin (Some (counts.File names size)) = (names ≤ MAX_NAMES) × (size ≤ MAX_FILE)
-    IsWithin (Some (counts.Directory names entries)) = (names ≤ MAX_NAMES) × (entries ≤ MAX_ENTRIES)
-
-    by_limits : (v : Option NodeView) → KeepsLimits v → IsWithin (option_map counts_of v)
-    by_limits None keeps = keeps
-    by_limits (Some (FileView names size)) keeps = keeps
-    by_limits (Some (DirView names entries)) keeps = keeps
-
-    limits_by : (v : Option NodeView) → IsWithin (option_map counts_of v) → KeepsLimits v
-    limits_by None within = within
-    limits_by (Some (FileView names size)) within = within
-    limits_by (Some (DirView names entries)) within = within
+same_limits v w same keeps = limits_by w (subst AreLow same (by_limits v keeps))
 
 same_sum : (f h : ℕ → ℕ) (is : List ℕ) → ((i : ℕ) → is_among i is ≡ true → f i ≡ h i) → sum_distinct f is ≡ sum_distinct h is
 same_sum f h [] same = refl

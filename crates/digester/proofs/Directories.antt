@@ -34,7 +34,7 @@ pub one_there : (g : Graph) (is : List ℕ) (read : Graph) (i : ℕ) → HasDire
 one_there g is read i has some = one_alike g is read i has (has.each i some)
 
 pub one_none : (g : Graph) (is : List ℕ) (read : Graph) (i : ℕ) → HasDirectories g is read → read i ≡ None → directory_in (g i) ≡ None → HasDirectories g (is ++ i ∷ []) read
-one_none g is read i has none no = one_alike g is read i has (ap directory_in none ∙ sym no)
+one_none g is read i has none nowhere = one_alike g is read i has (ap directory_in none ∙ sym nowhere)
 
 -- one is put there
 module _ (g : Graph) (is : List ℕ) (read new : Graph) (i names : ℕ) (entries : Entries (ℕ × Kind)) (has : HasDirectories g is read) (put : new ≡ set_node read i (Some (record { names = names; body = DirBody entries }))) (there : directory_in (g i) ≡ Some entries) where

@@ -125,7 +125,7 @@ places_within (effect.Names i n ∷ es) within = places_within es within.1
 places_within (effect.Size i size ∷ es) within = places_within es within.1
 places_within (effect.Bytes i at new ∷ es) within = places_within es within.1
 places_within (effect.Drop i ∷ es) within = places_within es within.1
-places_within (effect.Swap d a e b ∷ es) within = let both = and_parts (is_inode d) (is_inode e) within.0 in (both.0, both.1, places_within es within.1)
+places_within (effect.Swap d a e b ∷ es) within = let both = and_parts (is_inode d) (is_inode e) within.0 in (both.0, (both.1, places_within es within.1))
 
 names_within : (es : List Effect) → AreWithin es → AreWithin (on_names es)
 names_within [] within = tt

@@ -3,6 +3,7 @@ use Rattle.std.specs.List.{AllByRecursion}
 use Rattle.std.specs.List.Sorted.{IsNonDecreasing}
 use Rattle.coalescer.specs.graph_change.Change.{Changes}
 use Rattle.coalescer.specs.graph_change.View.{changes_of}
+use Rattle.coalescer.specs.declared.run_change.RunChange.{RunChange}
 use Rattle.update_log.specs.log_record.Grammar.{IsRecord}
 use Rattle.update_log.specs.log_record.declared.format.Record.{Record}
 use Rattle.shared_area.specs.area_reader.Store.{Store, disk, graph}
@@ -162,3 +163,8 @@ returns-in-Ok-FirstBad-clause-at_most g c = inl (let clock = c.in-Ok-FirstBad.en
 
 pub returns-in-Err-clause-at_most : goal.returns-in-Err-clause-at_most
 returns-in-Err-clause-at_most g c = inl (let clock = c.in-Err.ensures.looks.unmoved.clock in omega (arith, clock))
+
+pub returns-in-Ok-FirstBad-clause-untold : goal.returns-in-Ok-FirstBad-clause-untold
+returns-in-Ok-FirstBad-clause-untold g c none =
+    let chunk = c.args.chunk.now in
+    ap (λ (run : RunChange). record { client = chunk.client; generation = chunk.generation; first = chunk.first; count = chunk.count; change = run }) (c.in-Ok-FirstBad.ensures.untold none)
