@@ -31,7 +31,7 @@ pub use weight::{CHUNK_BLOCKS, CHUNK_IMAGES, DATA_WEIGHT, ENTRY_WEIGHT};
 
 /// Of `file_graph`, what the crates above name.
 pub mod in_file_graph {
-    pub use graph_change::in_file_graph::{PlainGraph};
+    pub use graph_change::in_file_graph::PlainGraph;
 }
 
 /// Of `graph_change`, what the crates above name.
