@@ -1,6 +1,6 @@
 -- Effects within the limits leave directories that lead to inodes, and what they come to on a graph is within the limits.
 use Rattle.std.proofs.Common.{◌≡◌, ℕ, cond, true, false, List, [], ◌∷◌, Option, Some, None, sym, subst}
-use Rattle.std.specs.Prelude.{IfSome, nat_le, option_map, if◌then◌else◌}
+use Rattle.std.specs.Prelude.{IfSome, option_map, if◌then◌else◌}
 use Rattle.std.specs.List.{AllByRecursion, list_any}
 use Rattle.std.specs.FinMap as fin
 use Rattle.std.specs.Ordering.{nat_cmp, eq_by_cmp}

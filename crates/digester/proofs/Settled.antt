@@ -11,7 +11,7 @@ use Rattle.posix_calls.specs.Content.{Entries, with_length, with_bytes}
 use Rattle.update_log.specs.file_graph.declared.effect.Kind.{Kind}
 use Rattle.update_log.specs.file_graph.declared.effect.Effect.{Effect}
 use Rattle.update_log.specs.file_graph.declared.effect.Effect.TheVariants as effect
-use Rattle.update_log.specs.file_graph.Graph.{Graph, Node, FileBody, DirBody, StandAlike, subjects, is_among, touches, subject_after, with_body, in_file, node_entries, directory_in, acted_graph, acted_all, exchanged_entries, plain_effects, settled_effects, child_at, after_effect, after_effects, swap_places, entered_if, entered_places}
+use Rattle.update_log.specs.file_graph.Graph.{Graph, Node, FileBody, DirBody, subjects, is_among, touches, subject_after, with_body, in_file, node_entries, directory_in, acted_graph, acted_all, exchanged_entries, plain_effects, settled_effects, child_at, after_effect, after_effects, swap_places, entered_if, entered_places}
 use Rattle.update_log.specs.file_graph.Plain.{is_swap}
 use Rattle.update_log.specs.file_graph.Subject.{subject}
 use Rattle.update_log.proofs.file_graph_lemmas.Touches.{directories_after, entries_in, or_empty, untouched_one}

@@ -78,8 +78,8 @@ fn end_of(sealed: &SealedLog, chunk: &Chunk) -> usize
     sealed.digested_count() as usize + chunk.count
 }
 
-// Tests the records of a chunk over the shared area, and tells their change what swapped names lead to there, if they all are good.
-fn test_and_tell<M: Media>(
+// Tests the records of a chunk over the shared area; where they all are good, their change is told what swapped names lead to there.
+fn complete_run<M: Media>(
     alloc: Global,
     area: &mut Shared<M>,
     held: &[u32],
@@ -89,9 +89,9 @@ fn test_and_tell<M: Media>(
     requires spelled { AllByRecursion IsRecord records.now }
     requires rising { IsNonDecreasing held.now }
     ensures answer { IfOk result (Finds held.now area.old.geometry.units (graph area.old.geometry (disk M.Media area.old)) records.now) }
-    ensures told { IfOk result (λ found. (units : ℕ) → found ≡ AllGood units → changes_of run.new.change ≡ told_change (graph area.old.geometry (disk M.Media area.old)) (swapped_of run.old)) }
+    ensures change { IfOk result (λ found. (units : ℕ) → found ≡ AllGood units → changes_of run.new.change ≡ told_change (graph area.old.geometry (disk M.Media area.old)) (swapped_of run.old)) }
     ensures names { run.new.names ≡ run.old.names }
-    ensures untold { run.old.names ≡ [] → run.new ≡ run.old }
+    ensures no_swap { run.old.names ≡ [] → run.new ≡ run.old }
     ensures only { IfErr result IsNoDamage }
     ensures looks { Looks M.Media area.old area.new result }
 {
@@ -122,8 +122,8 @@ fn digest_next<M: Media>(
     ensures at_mark { IfOk result (λ done. StandsAtMark (done_to done sealed.now) (disk M.Media area.new)) }
     ensures bad { IfErr result (NamesFirstBad area.old.geometry (disk M.Media area.old) sealed.now chunk.old.count) }
     ensures digests { DigestsOrStays M.Media area.old area.new result }
-    ensures told { OnOk result (changes_of chunk.new.change.change ≡ chunk_change (graph area.old.geometry (disk M.Media area.old)) chunk.old) }
-    ensures untold { chunk.old.change.names ≡ [] → chunk.new ≡ chunk.old }
+    ensures change { OnOk result (changes_of chunk.new.change.change ≡ chunk_change (graph area.old.geometry (disk M.Media area.old)) chunk.old) }
+    ensures no_swap { chunk.old.change.names ≡ [] → chunk.new ≡ chunk.old }
     ensures rest { chunk.new ≡ record chunk.old { change = chunk.new.change } }
     ensures at_most { MakesFewCalls area.old.geometry (disk M.Media area.old) (chunk_change (graph area.old.geometry (disk M.Media area.old)) chunk.old) (M.moment area.old.media) (M.moment area.new.media) (M.left area.old.media) (M.left area.new.media) }
 {
@@ -132,7 +132,7 @@ fn digest_next<M: Media>(
     sealed.invariant();
     let done = sealed.digested_count() as usize;
     let end = end_of(sealed, chunk);
-    match test_and_tell(
+    match complete_run(
         alloc,
         area,
         sealed.held_inodes(),
@@ -181,8 +181,8 @@ pub fn digest_chunk<M: Media>(
     ensures bad { IfErr result (NamesFirstBad area.old.geometry (disk M.Media area.old) sealed.old chunk.old.count) }
     ensures refused { OnErr result (sealed.new ≡ sealed.old) }
     ensures digests { DigestsOrStays M.Media area.old area.new result }
-    ensures told { OnOk result (changes_of chunk.new.change.change ≡ chunk_change (graph area.old.geometry (disk M.Media area.old)) chunk.old) }
-    ensures untold { chunk.old.change.names ≡ [] → chunk.new ≡ chunk.old }
+    ensures change { OnOk result (changes_of chunk.new.change.change ≡ chunk_change (graph area.old.geometry (disk M.Media area.old)) chunk.old) }
+    ensures no_swap { chunk.old.change.names ≡ [] → chunk.new ≡ chunk.old }
     ensures rest { chunk.new ≡ record chunk.old { change = chunk.new.change } }
     // As many writes and fences as the change of the chunk makes on the graph; what is read is not counted.
     ensures at_most { MakesFewCalls area.old.geometry (disk M.Media area.old) (chunk_change (graph area.old.geometry (disk M.Media area.old)) chunk.old) (M.moment area.old.media) (M.moment area.new.media) (M.left area.old.media) (M.left area.new.media) }

@@ -28,9 +28,9 @@ pub fn tell_run<M: Media>(
     run: &mut RunChange,
 ) -> Result<(), AreaError>
     requires going { area.old.failed ≡ false }
-    ensures told { OnOk result (changes_of run.new.change ≡ told_change (graph area.old.geometry (disk M.Media area.old)) (swapped_of run.old)) }
+    ensures change { OnOk result (changes_of run.new.change ≡ told_change (graph area.old.geometry (disk M.Media area.old)) (swapped_of run.old)) }
     ensures names { run.new.names ≡ run.old.names }
-    ensures untold { run.old.names ≡ [] → run.new ≡ run.old }
+    ensures no_swap { run.old.names ≡ [] → run.new ≡ run.old }
     ensures only { IfErr result IsNoDamage }
     ensures looks { Looks M.Media area.old area.new result }
 {

@@ -1,4 +1,4 @@
-use Rattle.std.proofs.Common.{◌≡◌, false, take}
+use Rattle.std.proofs.Common.{take}
 use Rattle.update_log.specs.file_graph.Graph.{graph_of, swapped_directories}
 use Rattle.shared_area.specs.area_reader.Store.{disk, graph}
 use Rattle.shared_area.specs.area_reader.Looks.{Looks, call_answer}
