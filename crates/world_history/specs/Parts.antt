@@ -1,0 +1,75 @@
+-- What a part is, by the moves in which it takes part alone.
+use Rattle.std.specs.Prelude.{ℕ, ◌+◌, List, [], ◌∷◌, ◌++◌, length, Bool, Option, Some, None, if◌then◌else◌}
+use Rattle.posix_calls.specs.Run.{Turn}
+use Rattle.world_invariant.specs.World.{Client}
+use Rattle.world_invariant.specs.LeaseSteps.{also, without}
+use Rattle.world_history.specs.declared.moves.Move.{Move}
+use Rattle.world_history.specs.declared.moves.Move.TheVariants as moves
+use Rattle.world_history.specs.Configuration.{KernelPart, AwayRegion, away_in}
+use Rattle.world_history.specs.Opening.{opening_configuration}
+use Rattle.world_history.specs.Moves.{restarts, client_moved, kernel_moved}
+use Rattle.world_history.specs.History.{turn_of}
+
+abbrev pub kernel_after : KernelPart → List Move → KernelPart
+kernel_after k [] = k
+kernel_after k (m ∷ older) = kernel_moved m (kernel_after k older)
+
+-- client c
+abbrev pub client_after : ℕ → Client → List Move → Client
+client_after c p [] = p
+client_after c p (m ∷ older) = client_moved c m (client_after c p older)
+
+-- its turns since all parts began anew, the oldest first
+abbrev pub turns_of : ℕ → Client → List Move → List Turn
+turns_of c p [] = []
+turns_of c p (m ∷ older) = if restarts m then [] else turns_of c p older ++ turn_of m (client_after c p older)
+
+-- what it saw when it met others last, since all parts began anew
+abbrev pub seen_then : Move → List Turn → List Turn
+seen_then (moves.Met clients seen) before = seen
+seen_then (moves.Shared o) before = []
+seen_then moves.Rejoined before = []
+seen_then _ before = before
+
+abbrev pub seen_by : List Move → List Turn
+seen_by [] = []
+seen_by (m ∷ older) = seen_then m (seen_by older)
+
+-- the leases that it took and did not give since, for reading and for writing
+abbrev pub reads_then : Move → (ℕ → Bool) → ℕ → Bool
+reads_then (moves.TookRead c i) has = also has i
+reads_then (moves.TookWrite c i) has = without has i
+reads_then (moves.Gave c i) has = without has i
+reads_then _ has = has
+
+abbrev pub reads_after : (ℕ → Bool) → List Move → ℕ → Bool
+reads_after has [] = has
+reads_after has (m ∷ older) = reads_then m (reads_after has older)
+
+abbrev pub writes_then : Move → (ℕ → Bool) → ℕ → Bool
+writes_then (moves.TookWrite c i) has = also has i
+writes_then (moves.Gave c i) has = without has i
+writes_then _ has = has
+
+abbrev pub writes_after : (ℕ → Bool) → List Move → ℕ → Bool
+writes_after has [] = has
+writes_after has (m ∷ older) = writes_then m (writes_after has older)
+
+-- ---- a region that is away
+
+abbrev pub with_digested : ℕ → Option AwayRegion → Option AwayRegion
+with_digested n None = None
+with_digested n (Some a) = Some (record a { digested = a.digested + n })
+
+abbrev pub away_moved : ℕ → Move → Option AwayRegion → Option AwayRegion
+away_moved c (moves.Sealed d past records) a = Some (record { past = past; records = records; digested = 0 })
+away_moved c (moves.TookBack d) a = None
+away_moved c (moves.Digested d records) a = with_digested (length records) a
+away_moved c (moves.Shared o) a = away_in (opening_configuration o) c
+away_moved c moves.Rejoined a = None
+away_moved c _ a = a
+
+-- that of client c
+abbrev pub away_after : ℕ → Option AwayRegion → List Move → Option AwayRegion
+away_after c a [] = a
+away_after c a (m ∷ older) = away_moved c m (away_after c a older)

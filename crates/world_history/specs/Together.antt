@@ -1,0 +1,71 @@
+-- What some parts say of one another: there is one history of which each lists its moves.
+use Rattle.std.specs.Prelude.{◌≡◌, ℕ, ◌==◌, List, [], ◌∷◌, ◌++◌, All, true, if◌then◌else◌}
+use Rattle.posix_calls.specs.Tree.{State}
+use Rattle.posix_calls.specs.Operations.{is_client}
+use Rattle.posix_calls.specs.Run.{Turn, Asked, Departs, Run}
+use Rattle.world_history.specs.declared.moves.Move.{Move}
+use Rattle.world_history.specs.Configuration.{Configuration}
+use Rattle.world_history.specs.Conditions.{MayFollow}
+use Rattle.world_history.specs.History.{after_moves, IsHistory, SeesAll, opening_of}
+use Rattle.world_history.specs.Participants.{Participant, OfKernel, OfClient, OfRegion, takes_part, projection}
+use Rattle.world_history.specs.Parts.{turns_of, seen_by}
+
+-- ---- turns of one client
+
+-- whose turn it is
+abbrev pub turner : Turn → ℕ
+turner (Asked c call reply) = c
+turner (Departs c) = c
+
+-- those of client c, in their order
+abbrev pub turns_by : ℕ → List Turn → List Turn
+turns_by c [] = []
+turns_by c (t ∷ ts) = if c == turner t then t ∷ turns_by c ts else turns_by c ts
+
+-- ---- some parts
+
+-- a participant, and the moves that it lists
+pub record PartMoves : Type 0 where
+  pub participant : Participant
+  pub moves : List Move
+
+-- it lists those of a history in which it takes part
+abbrev pub Lists : List Move → PartMoves → Type 0
+Lists h p = projection (takes_part p.participant) h ≡ p.moves
+
+pub record Together (s : Configuration) (parts : List PartMoves) : Type 0 where
+  pub history : List Move
+  pub legal : IsHistory s history
+  pub listed : All (Lists history) parts
+
+-- ---- one move more
+
+-- a move may follow every history of which these parts list their moves
+abbrev pub MayBeSaid : Configuration → List PartMoves → Move → Type 0
+MayBeSaid s parts m = (h : List Move) → IsHistory s h → All (Lists h) parts → MayFollow (after_moves s h) m × SeesAll s h m
+
+-- each that takes part in it lists it
+abbrev pub with_move : Move → PartMoves → PartMoves
+with_move m p = record p { moves = if takes_part p.participant m then m ∷ p.moves else p.moves }
+
+-- ---- one run
+
+-- the turns of a client are those of its list, in their order, and begin with what it saw
+abbrev pub Has : Configuration → List Turn → Participant → List Move → Type 0
+Has s turns OfKernel moves = Unit {0}
+Has s turns (OfRegion c) moves = Unit {0}
+Has s turns (OfClient c) moves = (turns_by c turns ≡ turns_of c (s.clients c) moves) × ((rest : List Turn) × (turns ≡ seen_by moves ++ rest))
+
+abbrev pub HasTurnsOf : Configuration → List Turn → PartMoves → Type 0
+HasTurnsOf s turns p = Has s turns p.participant p.moves
+
+-- One run of the file tree, from the opening that each part lists, has the turns of each client among the parts. All its turns are of clients: so where
+-- all clients are among the parts, no other turn stands in it.
+pub record HaveOneRun (s : Configuration) (parts : List PartMoves) : Type 0 where
+  pub first : State
+  pub turns : List Turn
+  pub last : State
+  pub run : Run first turns last
+  pub opening : All (λ p. opening_of s p.moves ≡ first) parts
+  pub listed : All (HasTurnsOf s turns) parts
+  pub clients : All (λ t. is_client (turner t) ≡ true) turns
