@@ -1,5 +1,5 @@
 -- A kernel and eight clients as plain data, by lists: what a history begins anew with.
-use Rattle.std.specs.Prelude.{ℕ, ◌-◌, ◌==◌, slice_get, List, [], ◌∷◌, Bool, Option, Some, None, option_map, if◌then◌else◌}
+use Rattle.std.specs.Prelude.{ℕ, ◌-◌, ◌==◌, slice_get, List, [], ◌∷◌, Bool, false, Option, Some, None, option_map, if◌then◌else◌}
 use Rattle.posix_calls.specs.Tree.{State}
 use Rattle.posix_calls.specs.declared.descriptor.Descriptor.{Descriptor}
 use Rattle.world_invariant.specs.file_graph.Graph.{Node, is_among}
@@ -60,9 +60,9 @@ found_block (x ∷ xs) i b = if x.0 == i then found x.1 b else found_block xs i 
 abbrev pub begun_of : BegunCall → Begun
 begun_of b = record { call = b.call; new = b.new; operation = b.operation; change = b.change }
 
--- a client by its lists, which holds the leases of another one
-abbrev pub listed_client : ℕ → OpeningClient → Client → Client
-listed_client c o p = record {
+-- a client by its lists, without leases
+abbrev pub listed_client : ℕ → OpeningClient → Client
+listed_client c o = record {
   knows = record { client = c; own = found o.own; copies = found o.copies; blocks = found_block o.blocks; granted = λ i. is_among i o.granted };
   past = o.past;
   sealed = o.sealed;
@@ -70,17 +70,17 @@ listed_client c o p = record {
   other = o.other;
   ready = o.ready;
   begun = option_map begun_of o.begun;
-  reads = p.reads;
-  writes = p.writes;
+  reads = λ i. false;
+  writes = λ i. false;
   spare = o.spare;
   pins = λ i. is_among i o.pins;
   status = o.status;
 }
 
 -- of a number that isn't listed nobody
-abbrev pub client_if : ℕ → Option OpeningClient → Client → Client
-client_if c None p = record (idle_client c 0) { reads = p.reads; writes = p.writes }
-client_if c (Some o) p = listed_client c o p
+abbrev pub client_if : ℕ → Option OpeningClient → Client
+client_if c None = idle_client c 0
+client_if c (Some o) = listed_client c o
 
 abbrev pub account_if : Option OpeningAccount → Account
 account_if None = idle_account 0
@@ -92,7 +92,7 @@ accepted_if (Some a) = a.accepted
 
 -- client c, with the leases of another one
 abbrev pub opening_client : Opening → ℕ → Client → Client
-opening_client o c p = client_if c (slice_get o.clients (c - 1)) p
+opening_client o c p = record (client_if c (slice_get o.clients (c - 1))) { reads = p.reads; writes = p.writes }
 
 abbrev pub opening_kernel : Opening → KernelPart
 opening_kernel o = record {
