@@ -1,1 +1,4 @@
 pub mod WorldSteps
+pub mod Grants
+pub mod Plain
+pub mod Keeping

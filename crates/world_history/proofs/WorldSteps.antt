@@ -1,5 +1,5 @@
 -- Steps of the world that are made of several of its own.
-use Rattle.std.proofs.Common.{◌≡◌, ◌≢◌, inl, inr, ℕ, ◌+◌, ◌-◌, ◌≤◌, ◌==◌, cond, Bool, true, false, List, [], ◌∷◌, ◌++◌, Option, Some, None, refl, ap, sym, ◌∙◌, subst, arith, eq-eqb}
+use Rattle.std.proofs.Common.{◌≡◌, ◌≢◌, inl, inr, ℕ, ◌+◌, ◌-◌, ◌≤◌, ◌==◌, cond, Bool, true, false, List, [], ◌∷◌, ◌++◌, length, Option, Some, None, refl, ap, sym, ◌∙◌, subst, arith, eq-eqb}
 use Rattle.std.proofs.lemmas.Bool.Decides.{eqb_tells}
 use Rattle.posix_calls.specs.Tree.{with_own}
 use Rattle.posix_calls.specs.Operations.{is_client, makes, own_after}
@@ -18,7 +18,7 @@ use Rattle.world_invariant.specs.Halves.{units_sent}
 use Rattle.world_invariant.specs.Invariant.{IsCoherent}
 use Rattle.world_invariant.specs.LeaseSteps.{CanFetch, CanForgetBlocks, after_fetch, blocks_forgotten, own_view}
 use Rattle.world_invariant.specs.Logs.{after_records, is_touched, is_written}
-use Rattle.world_invariant.specs.World.{Account, Begun, Client, Dead, Failed, Kernel, Status, World, at, change_of, has_lease, held_descriptors, log_of, undigested_records, whole_graph, world_state}
+use Rattle.world_invariant.specs.World.{Account, Away, Begun, Client, Dead, Failed, Kernel, Status, World, at, change_of, has_lease, held_descriptors, log_of, undigested_records, whole_graph, world_state}
 use Rattle.world_invariant.proofs.Begins.{given_up_holds, given_up_tree, tree_same}
 use Rattle.world_invariant.proofs.Facts.{writing_holds}
 use Rattle.world_invariant.proofs.Fetches.{fetched_holds, fetched_tree}
@@ -90,7 +90,7 @@ module _ (w : World) (c i : ℕ) (h : IsCoherent w) (can : CanCopy w c i) where
   may_fetch : CanFetch let_go c i
   may_fetch = let x = still_by_itself in record { client = x.client; leased = x.leased; missing = x.missing; clear = x.clear }
 
-  abbrev copied : Client
+  abbrev pub copied : Client
   copied = record reader { knows = with_copy (without_blocks reader.knows i) i (view_at (own_view w c) i) }
 
   abbrev made : Kernel → Client → Client
@@ -260,3 +260,14 @@ module _ (w : World) (c : ℕ) (b : Begun) (h : IsCoherent w) (is : IsDying w c 
 
   pub lost_tree : world_state (with_client w c without_it) ≡ world_state w
   lost_tree = ap world_state (sym is_gone) ∙ units_sent_tree (given_up w c b) c b.change.units (given_up_holds w c b h its) is.client ∙ given_up_tree w c b h its
+
+-- ---- a region that is not away
+
+-- all before it is digested
+pub mark_at_past : (w : World) (c : ℕ) → IsCoherent w → is_client c ≡ true → (w.clients c).other ≢ Away → (w.kernel.accounts c).mark ≡ (w.clients c).past
+mark_at_past w c h is_c back =
+    let m = (h.stands c is_c).marked in
+    let none : length (w.clients c).sealed ≡ 0 = ap length (m.none back) in
+    let low : (w.clients c).past ≤ (w.kernel.accounts c).mark = m.low in
+    let high : (w.kernel.accounts c).mark ≤ (w.clients c).past + length (w.clients c).sealed = m.high in
+    omega (arith, none, low, high)
