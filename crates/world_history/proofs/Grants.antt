@@ -11,11 +11,8 @@ use Rattle.world_invariant.specs.World.{Account, Client, Kernel, World, at, worl
 use Rattle.world_invariant.proofs.Books.{number_granted_holds, number_granted_tree, number_returned_holds, number_returned_tree, units_granted_hold, units_granted_tree, units_returned_hold, units_returned_tree}
 use Rattle.world_history.specs.Conditions.{CanGrant, CanReturnGrant}
 use Rattle.world_history.specs.Moves.{also_all, book_numbers, unbook_numbers, without_all}
+use Rattle.world_history.proofs.Bools.{neither}
 use Rattle.world_history.proofs.WorldSteps.{at_again, at_there}
-
-neither : (x y : Bool) → (x || y) ≡ false → (x ≡ false) × (y ≡ false)
-neither true y e = absurd (true≢false e)
-neither false y e = (refl, e)
 
 other_way : (i j : ℕ) → (j == i) ≡ false → (i == j) ≡ false
 other_way i j e = elim (eqb_tells i j) [
