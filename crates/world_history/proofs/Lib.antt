@@ -6,3 +6,4 @@ pub mod Keeping
 pub mod Parts
 pub mod Local
 pub mod AwayRegions
+pub mod Turns

@@ -1,5 +1,5 @@
 -- A history is a list of moves, the newest first, each of which may follow those before it; and the turns that it makes of the file tree.
-use Rattle.std.specs.Prelude.{◌≡◌, ℕ, List, [], ◌∷◌, ◌++◌, Option, Some, None, if◌then◌else◌}
+use Rattle.std.specs.Prelude.{◌≡◌, ℕ, List, [], ◌∷◌, ◌++◌, false, Option, Some, None, if◌then◌else◌}
 use Rattle.posix_calls.specs.Tree.{State}
 use Rattle.posix_calls.specs.Operations.{reply_of}
 use Rattle.posix_calls.specs.Run.{Turn, Asked, Departs}
@@ -44,6 +44,11 @@ restarted _ old = old
 abbrev pub opening_of : Configuration → List Move → State
 opening_of s [] = tree_of s
 opening_of s (m ∷ older) = restarted m (opening_of s older)
+
+-- with none of these moves all parts begin anew
+abbrev pub NoneRestarts : List Move → Type 0
+NoneRestarts [] = Unit {0}
+NoneRestarts (m ∷ older) = (restarts m ≡ false) × NoneRestarts older
 
 -- ---- when it is one
 

@@ -1,5 +1,5 @@
 -- What some parts say of one another: there is one history of which each lists its moves.
-use Rattle.std.specs.Prelude.{◌≡◌, ℕ, ◌==◌, List, [], ◌∷◌, ◌++◌, All, true, if◌then◌else◌}
+use Rattle.std.specs.Prelude.{◌≡◌, ℕ, ◌==◌, List, [], ◌∷◌, ◌++◌, true, if◌then◌else◌}
 use Rattle.posix_calls.specs.Tree.{State}
 use Rattle.posix_calls.specs.Operations.{is_client}
 use Rattle.posix_calls.specs.Run.{Turn, Asked, Departs, Run}
@@ -9,6 +9,11 @@ use Rattle.world_history.specs.Conditions.{MayFollow}
 use Rattle.world_history.specs.History.{after_moves, IsHistory, SeesAll, opening_of}
 use Rattle.world_history.specs.Participants.{Participant, OfKernel, OfClient, OfRegion, takes_part, projection}
 use Rattle.world_history.specs.Parts.{turns_of, seen_by}
+
+-- each of a list is so
+abbrev pub Every : {A : Type 0} → (A → Type 0) → List A → Type 0
+Every IsSo [] = Unit {0}
+Every IsSo (x ∷ xs) = IsSo x × Every IsSo xs
 
 -- ---- turns of one client
 
@@ -36,13 +41,13 @@ Lists h p = projection (takes_part p.participant) h ≡ p.moves
 pub record Together (s : Configuration) (parts : List PartMoves) : Type 0 where
   pub history : List Move
   pub legal : IsHistory s history
-  pub listed : All (Lists history) parts
+  pub listed : Every (Lists history) parts
 
 -- ---- one move more
 
 -- a move may follow every history of which these parts list their moves
 abbrev pub MayBeSaid : Configuration → List PartMoves → Move → Type 0
-MayBeSaid s parts m = (h : List Move) → IsHistory s h → All (Lists h) parts → MayFollow (after_moves s h) m × SeesAll s h m
+MayBeSaid s parts m = (h : List Move) → IsHistory s h → Every (Lists h) parts → MayFollow (after_moves s h) m × SeesAll s h m
 
 -- each that takes part in it lists it
 abbrev pub with_move : Move → PartMoves → PartMoves
@@ -66,6 +71,6 @@ pub record HaveOneRun (s : Configuration) (parts : List PartMoves) : Type 0 wher
   pub turns : List Turn
   pub last : State
   pub run : Run first turns last
-  pub opening : All (λ p. opening_of s p.moves ≡ first) parts
-  pub listed : All (HasTurnsOf s turns) parts
-  pub clients : All (λ t. is_client (turner t) ≡ true) turns
+  pub opening : Every (λ p. opening_of s p.moves ≡ first) parts
+  pub listed : Every (HasTurnsOf s turns) parts
+  pub clients : Every (λ t. is_client (turner t) ≡ true) turns
