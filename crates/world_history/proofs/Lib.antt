@@ -7,3 +7,6 @@ pub mod Parts
 pub mod Local
 pub mod AwayRegions
 pub mod Turns
+pub mod Leases
+pub mod Consistent
+pub mod Together

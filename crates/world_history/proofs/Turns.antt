@@ -116,11 +116,11 @@ by_append c (t ∷ xs) ys = elim (either (c == turner t)) [
 -- ---- a client's
 
 module _ (c : ℕ) (m : Move) where
-  abbrev takes : Bool
-  takes = takes_part (OfClient c) m
+  abbrev is_listed : Bool
+  is_listed = takes_part (OfClient c) m
 
   -- a move in which it takes no part is no turn of it
-  off_turn : (p : Client) → takes ≡ false → turns_by c (turn_of m p) ≡ []
+  off_turn : (p : Client) → is_listed ≡ false → turns_by c (turn_of m p) ≡ []
   off_turn p off =
       let own = (neither (c == client_of m && is_clients m) (has_met c m) (neither ((c == client_of m && is_clients m) || has_met c m) (restarts m) off).0).0 in
       elim (eqb_tells c (client_of m)) [
@@ -129,7 +129,7 @@ module _ (c : ℕ) (m : Move) where
       ]
 
   -- one in which it does is the turn that it says by itself
-  on_turn : (clients : ℕ → Client) → takes ≡ true → restarts m ≡ false → turns_by c (turn_of m (clients (client_of m))) ≡ turn_of m (clients c)
+  on_turn : (clients : ℕ → Client) → is_listed ≡ true → restarts m ≡ false → turns_by c (turn_of m (clients (client_of m))) ≡ turn_of m (clients c)
   on_turn clients on one = elim (eqb_tells c (client_of m)) [
     | inl same ↦ (turn_by c m (clients (client_of m))).0 same.0 ∙ ap (λ d. turn_of m (clients d)) (sym same.1)
     | inr other ↦ (turn_by c m (clients (client_of m))).1 other.0 ∙ sym (no_turn m (clients c) (met_is_no_clients c m (met other.0)))

@@ -1,10 +1,28 @@
-//! One history of all that a kernel and its clients do.
+//! One history of all that a kernel and its clients do, move by move, over plain data: no table, no thread.
+//!
+//! A move is a step of the world (`world_invariant`). Each part, which is the kernel, a client, or a client's region that is away, lists the moves in which it takes
+//! part; a history is one list of moves, each of which may follow those before it. `specs/Moves.antt` says what a move makes, `specs/Conditions.antt` when it may
+//! follow, `specs/Participants.antt` who takes part. The laws below say that nothing else has to be kept: that the world holds together, that the calls are one run of
+//! the file tree, and what each part knows of the others, follows from the lists.
 #![tactic(auto)]
 
 mod begun_call;
+mod history_laws;
+mod local_laws;
 mod moves;
 mod opening;
+mod part_laws;
+mod together_laws;
 
 pub use begun_call::BegunCall;
+pub use history_laws::{
+    failed_digest_keeps_its_region_away, history_begins_with_what_was_seen, history_is_a_run,
+    history_stays_consistent, turns_follow_from_own_moves,
+};
+pub use local_laws::{move_asks_its_client_and_the_kernel, move_asks_its_region_and_the_kernel};
 pub use moves::{Move, NodeCopy, SeenTurn};
 pub use opening::OpeningData;
+pub use part_laws::{
+    away_region_is_its_own_moves, leases_are_those_taken, parts_are_their_own_moves,
+};
+pub use together_laws::{parts_together_have_one_run, said_move_keeps_parts_together};
