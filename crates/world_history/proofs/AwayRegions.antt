@@ -1,5 +1,5 @@
 -- A region that is away is its client's, as its own moves say.
-use Rattle.std.proofs.Common.{◌≡◌, ◌≢◌, inl, inr, ℕ, ◌+◌, ◌-◌, ◌≤◌, ◌==◌, cond, Bool, true, false, List, [], ◌∷◌, length, refl, Some, None, Option, sym, ap, ◌∙◌, subst, arith, true≢false}
+use Rattle.std.proofs.Common.{◌≡◌, ◌≢◌, inl, inr, ℕ, ◌+◌, ◌-◌, ◌≤◌, ◌==◌, cond, true, false, List, [], ◌∷◌, length, refl, Some, None, Option, sym, ap, ◌∙◌, subst, arith, true≢false}
 use Rattle.std.specs.Prelude.{◌&&◌, ◌||◌}
 use Rattle.std.proofs.lemmas.Bool.Decides.{eqb_tells}
 use Rattle.posix_calls.specs.Operations.{is_client}
@@ -16,7 +16,7 @@ use Rattle.world_history.specs.Conditions.{MayFollow}
 use Rattle.world_history.specs.History.{after_moves, IsHistory}
 use Rattle.world_history.specs.Participants.{is_regions, OfRegion, takes_part, projection}
 use Rattle.world_history.specs.Parts.{with_digested, away_moved, away_after}
-use Rattle.world_history.proofs.Bools.{neither, second_of}
+use Rattle.world_history.proofs.Bools.{neither}
 use Rattle.world_history.proofs.WorldSteps.{at_there, mark_at_past}
 use Rattle.world_history.proofs.Parts.{else_stays, own_moves, projected, unprojected}
 use Rattle.world_history.proofs.Keeping.{history_keeps}

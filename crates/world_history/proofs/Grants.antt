@@ -1,11 +1,10 @@
 -- Units and several numbers are granted at once, or given back: as by the world's steps of units and of one number.
-use Rattle.std.proofs.Common.{◌≡◌, ◌≢◌, inl, inr, ℕ, ◌+◌, ◌-◌, ◌≤◌, ◌==◌, ◌||◌, cond, Bool, true, false, List, [], ◌∷◌, None, refl, ap, sym, ◌∙◌, true≢false}
+use Rattle.std.proofs.Common.{◌≡◌, inl, inr, ℕ, ◌+◌, ◌-◌, ◌==◌, ◌||◌, cond, Bool, true, false, List, [], ◌∷◌, refl, ap, sym, ◌∙◌, true≢false}
 use Rattle.std.proofs.lemmas.Bool.Decides.{eqb_tells}
 use Rattle.world_invariant.specs.file_graph.Graph.{Graph, is_among}
 use Rattle.world_invariant.specs.BookSteps.{CanReturn, IsUnbooked, number_granted, number_returned, units_granted, units_returned}
 use Rattle.world_invariant.specs.Invariant.{IsCoherent}
 use Rattle.world_invariant.specs.LeaseSteps.{also, without}
-use Rattle.world_invariant.specs.Logs.{IsDistinct}
 use Rattle.world_invariant.specs.Machine.{Machine, book_units, kernel_with, unbook_units}
 use Rattle.world_invariant.specs.World.{Account, Client, Kernel, World, at, world_state}
 use Rattle.world_invariant.proofs.Books.{number_granted_holds, number_granted_tree, number_returned_holds, number_returned_tree, units_granted_hold, units_granted_tree, units_returned_hold, units_returned_tree}
@@ -123,10 +122,10 @@ module _ (w : World) (c units : ℕ) where
       let p : Client = returnee (w.clients c) units is in
       let there : (returned_world w c units is).clients c ≡ p = ap (λ (f : ℕ → Client). f c) (returned_clients is) ∙ at_there w.clients c p in
       let may : CanReturn (returned_world w c units is) c i = record {
-            client = can.client;
-            idle = ap (λ (q : Client). q.begun) there ∙ can.idle;
-            granted = ap (λ (q : Client). q.knows.granted i) there ∙ still_granted (w.clients c).knows.granted is i can.once.0 (can.granted i first);
-          } in
+        client = can.client;
+        idle = ap (λ (q : Client). q.begun) there ∙ can.idle;
+        granted = ap (λ (q : Client). q.knows.granted i) there ∙ still_granted (w.clients c).knows.granted is i can.once.0 (can.granted i first);
+      } in
       (number_returned_holds (returned_world w c units is) c i before.0 may, number_returned_tree (returned_world w c units is) c i before.0 may ∙ before.1)
     where
       first : is_among i (i ∷ is) ≡ true

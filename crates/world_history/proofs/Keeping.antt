@@ -1,5 +1,5 @@
 -- Each move is the world's own step: so a history keeps all that holds of a world, and its turns are a run of the file tree.
-use Rattle.std.proofs.Common.{◌≡◌, ◌≢◌, inl, inr, ℕ, ◌+◌, ◌++◌, cond, Bool, true, false, List, [], ◌∷◌, length, refl, Some, None, Option, sym, ap, ◌∙◌, subst}
+use Rattle.std.proofs.Common.{◌≡◌, inl, inr, ℕ, ◌++◌, cond, List, [], ◌∷◌, refl, Some, Option, sym, ap, ◌∙◌, subst}
 use Rattle.posix_calls.specs.Tree.{State}
 use Rattle.posix_calls.specs.Operations.{reply_of}
 use Rattle.posix_calls.specs.Run.{Turn, Asked, Departs, Takes, Run}
@@ -7,7 +7,7 @@ use Rattle.posix_calls.specs.declared.call.Reply.TheVariants as replies
 use Rattle.posix_calls.proofs.Steps.{run_joined}
 use Rattle.world_invariant.specs.call_effects.NodeView.{NodeView}
 use Rattle.world_invariant.specs.call_effects.Knowledge.{with_copy}
-use Rattle.world_invariant.specs.World.{Alive, Away, Back, Wiped, Dead, Failed, Begun, Client, World, world_state, at, moved_world}
+use Rattle.world_invariant.specs.World.{Alive, Away, Back, Wiped, Dead, Failed, Client, World, world_state, at, moved_world}
 use Rattle.world_invariant.specs.Invariant.{IsCoherent}
 use Rattle.world_invariant.specs.FormatWorld.{idle_account, idle_client}
 use Rattle.world_invariant.specs.ClientSteps.{with_client, call_begun, given_up, after_answer, after_failure, after_death}
@@ -92,7 +92,7 @@ module _ (s : Configuration) where
   keeps (moves.Answered c call new operation) h may = by _ (after_answer w c new operation) (Asked c call (reply_of operation) ∷ []) (is_part c (moves.Answered c call new operation))
       (answered_holds w c call new operation h may) (world_state (after_answer w c new operation), answered_step w c call new operation h may, refl)
   keeps (moves.Refused c call errno) h may = by _ w (Asked c call (replies.Failed errno) ∷ []) (nobodys s c) h
-      (world_state w, elim may.1 [ | inl known ↦ refused w c h may.0 call errno known | inr give ↦ inr (errno, give, refl, refl) ], refl)
+      (world_state w, elim may.1 [ inl known ↦ refused w c h may.0 call errno known | inr give ↦ inr (errno, give, refl, refl) ], refl)
   keeps (moves.Began c b) h may = still _ (call_begun w c (begun_of b)) (is_part c (moves.Began c b)) (begun_holds w c (begun_of b) h may) (begun_tree w c (begun_of b) h may)
   keeps (moves.Replied c) h may = let b = may.0 in
       subst (λ turns. Goes (world_state w) turns (world_of (after_move s (moves.Replied c)))) (ap (begun_turn c) (sym may.1.there))

@@ -10,3 +10,4 @@ pub mod Turns
 pub mod Leases
 pub mod Consistent
 pub mod Together
+pub mod MayBeSaid

@@ -1,17 +1,17 @@
 -- A move may follow where those who take part in it say so by themselves.
-use Rattle.std.proofs.Common.{◌≡◌, ◌≢◌, inl, inr, ℕ, ◌+◌, ◌-◌, ◌≤◌, ◌||◌, Bool, true, false, List, [], ◌∷◌, ◌++◌, length, drop, refl, Option, Some, None, zero, suc, sym, ap, ◌∙◌, subst, arith, true≢false}
+use Rattle.std.proofs.Common.{◌≡◌, ◌≢◌, ℕ, ◌+◌, ◌-◌, ◌≤◌, ◌||◌, Bool, true, false, List, [], ◌∷◌, ◌++◌, length, drop, refl, Some, None, zero, suc, sym, ap, ◌∙◌, subst, arith, true≢false}
 use Rattle.posix_calls.specs.Operations.{is_client}
 use Rattle.world_invariant.specs.log_record.declared.format.Record.{Record}
 use Rattle.world_invariant.specs.Invariant.{IsCoherent}
 use Rattle.world_invariant.specs.Logs.{is_touched, is_written}
-use Rattle.world_invariant.specs.Machine.{sealed_of, CanAccept, CanDigestNext}
-use Rattle.world_invariant.specs.World.{Away, Back, Wiped, Client, Region, log_of}
+use Rattle.world_invariant.specs.Machine.{CanAccept, CanDigestNext}
+use Rattle.world_invariant.specs.World.{Away, Back, Wiped, Client, Region}
 use Rattle.world_invariant.proofs.Idle.{none_some}
 use Rattle.world_history.specs.declared.moves.Move.{Move}
 use Rattle.world_history.specs.declared.moves.Move.TheVariants as moves
 use Rattle.world_history.specs.Configuration.{KernelPart, Configuration, AwayRegion, CanDigestOf, as_sealed, away_by, away_in, mark_of, world_of}
 use Rattle.world_history.specs.Moves.{client_of}
-use Rattle.world_history.specs.Conditions.{HoldsNothing, IsGoing, MayFollow}
+use Rattle.world_history.specs.Conditions.{IsGoing, MayFollow}
 use Rattle.world_history.specs.Locality.{local, asks_locally, IsLocal}
 
 -- ---- by its client, and by the kernel where that takes part
@@ -74,7 +74,7 @@ pub joined_by_client : (s : Configuration) (k : KernelPart) (c mark : ℕ) → I
 joined_by_client s k c mark h may = (
   record { client = may.0.client; buried = may.0.buried; digested = same (mark_of s.kernel c - (s.clients c).past) ∙ sym (same (mark_of k c - (s.clients c).past)) ∙ may.0.digested; other = may.0.other; ready = may.0.ready },
   may.1,
-  may.2
+  may.2,
 )
   where
     wiped : (s.clients c).other ≢ Away
@@ -124,7 +124,7 @@ module _ (s : Configuration) (c : ℕ) (a : AwayRegion) (h : IsCoherent (world_o
   pub accepted_by_region : CanAccept s.kernel.machine c (as_sealed a) → MayFollow s (moves.Accepted c (a.past + length a.records))
   accepted_by_region can = (
     record { client = can.client; some = λ none. can.some (sym fits.sealed ∙ none); before = can.before ∙ sym fits.past; first = can.first ∙ sym fits.past },
-    λ t. sym fits.past t + length (sym fits.sealed t)
+    λ t. sym fits.past t + length (sym fits.sealed t),
   )
 
   digest_by_region : (records rest : List Record) → CanDigestNext s.kernel.machine c (as_sealed a) records rest → CanDigestOf s c records

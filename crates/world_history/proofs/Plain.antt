@@ -1,5 +1,5 @@
 -- A root alone, of which nobody has anything but leases that are legal.
-use Rattle.std.proofs.Common.{◌≡◌, ◌≢◌, inl, ℕ, ◌≤◌, true, false, refl, Some, None, arith}
+use Rattle.std.proofs.Common.{◌≡◌, ◌≢◌, inl, ℕ, true, refl, arith}
 use Rattle.std.proofs.lemmas.Bool.{false≢true}
 use Rattle.posix_calls.specs.Operations.{is_client}
 use Rattle.world_invariant.specs.file_graph.Graph.{fresh}
@@ -11,7 +11,7 @@ use Rattle.world_invariant.specs.World.{Client}
 use Rattle.world_invariant.proofs.call_effects_lemmas.Fresh.{fresh_sound}
 use Rattle.world_invariant.proofs.Fresh.{fresh_within}
 use Rattle.world_invariant.proofs.Idle.{idle_holds, idle_stands, none_some}
-use Rattle.world_history.specs.Configuration.{Configuration, IsConsistent, plain, plain_client, plain_kernel, world_of}
+use Rattle.world_history.specs.Configuration.{IsConsistent, plain, plain_client, plain_kernel, world_of}
 
 idle : IsCoherent (idle_world (charge fresh) fresh)
 idle = idle_holds (charge fresh) fresh (omega arith) fresh_sound fresh_within

@@ -1,7 +1,6 @@
 -- Parts that list moves of one history have one run, and may list one move more.
-use Rattle.std.proofs.Common.{◌≡◌, inl, inr, ℕ, cond, Bool, true, false, List, [], ◌∷◌, map, refl, sym, ap, ◌∙◌, subst, true≢false}
+use Rattle.std.proofs.Common.{◌≡◌, inl, inr, cond, Bool, true, false, List, [], ◌∷◌, map, refl, sym, ap, ◌∙◌, subst, true≢false}
 use Rattle.posix_calls.specs.Tree.{State}
-use Rattle.posix_calls.specs.Run.{Turn}
 use Rattle.world_invariant.specs.Invariant.{IsCoherent}
 use Rattle.world_invariant.proofs.Records.{either}
 use Rattle.world_history.specs.declared.moves.Move.{Move}
@@ -16,7 +15,7 @@ use Rattle.world_history.proofs.Parts.{projected, unprojected, restart_is_of_cli
 use Rattle.world_history.proofs.Turns.{seen_begins, turns_are, turns_are_of_clients}
 
 -- what follows of each of a list
-every : {A : Type 0} (P Q : A → Type 0) → ((x : A) → P x → Q x) → (xs : List A) → Every P xs → Every Q xs
+pub every : {A : Type 0} (P Q : A → Type 0) → ((x : A) → P x → Q x) → (xs : List A) → Every P xs → Every Q xs
 every P Q f [] all = tt
 every P Q f (x ∷ xs) all = (f x all.0, every P Q f xs all.1)
 
@@ -69,7 +68,7 @@ restart_is_of (OfRegion c) m e = restart_is_of_region c m e
 
 -- ---- one run
 
-has_turns : (s : Configuration) (h : List Move) → IsHistory s h → (q : Participant) → Has s (turns_in s h) q (projection (takes_part q) h)
+pub has_turns : (s : Configuration) (h : List Move) → IsHistory s h → (q : Participant) → Has s (turns_in s h) q (projection (takes_part q) h)
 has_turns s h is OfKernel = tt
 has_turns s h is (OfRegion c) = tt
 has_turns s h is (OfClient c) = (turns_are s c h, seen_begins s c h is)
@@ -87,7 +86,7 @@ one_run s parts h t = record {
 
 -- ---- one move more
 
-listed_too : (m : Move) (h : List Move) (parts : List PartMoves) → Every (Lists h) parts → Every (Lists (m ∷ h)) (map (with_move m) parts)
+pub listed_too : (m : Move) (h : List Move) (parts : List PartMoves) → Every (Lists h) parts → Every (Lists (m ∷ h)) (map (with_move m) parts)
 listed_too m h [] all = tt
 listed_too m h (p ∷ parts) all = (ap (λ l. cond (takes_part p.participant m) (m ∷ l) l) all.0, listed_too m h parts all.1)
 

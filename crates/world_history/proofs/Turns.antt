@@ -1,5 +1,5 @@
 -- A client's turns in the run of a history are those of its own moves, and the run begins with what it saw.
-use Rattle.std.proofs.Common.{◌≡◌, ◌≢◌, ◌⊎◌, inl, inr, ℕ, ◌==◌, cond, Bool, true, false, List, [], ◌∷◌, ◌++◌, refl, Some, None, Option, sym, ap, ◌∙◌, subst, append-nil, append_assoc, true≢false}
+use Rattle.std.proofs.Common.{◌≡◌, ◌⊎◌, inl, inr, ℕ, ◌==◌, cond, Bool, true, false, List, [], ◌∷◌, ◌++◌, refl, Some, None, Option, sym, ap, ◌∙◌, subst, append-nil, append_assoc, true≢false}
 use Rattle.std.specs.Prelude.{◌&&◌, ◌||◌}
 use Rattle.std.proofs.lemmas.Bool.Decides.{eqb_tells}
 use Rattle.posix_calls.specs.Operations.{is_client, reply_of}
@@ -313,9 +313,10 @@ meeting_begins s c h is newer clients seen older e none =
     let m : Move = moves.Met clients seen in
     let r = parted (takes_part (OfClient c)) (restart_is_of_client c) h newer m older e in
     let before : IsHistory s (m ∷ r.1) = history_of s r.0 (m ∷ r.1) (subst (IsHistory s) r.2 is) in
-    let told : seen ≡ turns_in s r.1 = before.0.1 in
-    (subst (λ l. Begins seen (turns_in s l)) (sym r.2) (subst (λ l. Begins l (turns_in s (r.0 ++ m ∷ r.1))) (append-nil (turns_in s r.1) ∙ sym told) (turns_begin s r.0 (m ∷ r.1) (r.4 none))),
-     ap (turns_by c) told ∙ turns_are s c r.1 ∙ ap (turns_of c (s.clients c)) r.3)
+    let told : seen ≡ turns_in s r.1 = before.0.1 in (
+      subst (λ l. Begins seen (turns_in s l)) (sym r.2) (subst (λ l. Begins l (turns_in s (r.0 ++ m ∷ r.1))) (append-nil (turns_in s r.1) ∙ sym told) (turns_begin s r.0 (m ∷ r.1) (r.4 none))),
+      ap (turns_by c) told ∙ turns_are s c r.1 ∙ ap (turns_of c (s.clients c)) r.3,
+    )
 
 -- ---- all turns are of clients
 

@@ -6,7 +6,7 @@ use Rattle.posix_calls.specs.Operations.{is_client, makes, own_after}
 use Rattle.posix_calls.specs.declared.operation.Operation.{Operation}
 use Rattle.posix_calls.specs.declared.operation.Operation.TheVariants.{Tell, NewDir, NewFile, OpenFile, CloseFile, Write, Resize, RemoveDir, AddName, DropName, Move, Exchange}
 use Rattle.posix_calls.proofs.Sums.{there_if}
-use Rattle.world_invariant.specs.file_graph.Graph.{after_effects, is_among, touches}
+use Rattle.world_invariant.specs.file_graph.Graph.{is_among, touches}
 use Rattle.world_invariant.specs.file_graph.declared.effect.Effect.{Effect}
 use Rattle.world_invariant.specs.call_effects.Effects.{effects_by, recounted_file, stored_at}
 use Rattle.world_invariant.specs.call_effects.Knowledge.{Agrees, Knowledge, knows_after, knows_made, with_copy}

@@ -34,6 +34,15 @@ pub record PartMoves : Type 0 where
   pub participant : Participant
   pub moves : List Move
 
+abbrev pub kernel_part : List Move → PartMoves
+kernel_part ms = record { participant = OfKernel; moves = ms }
+
+abbrev pub client_part : ℕ → List Move → PartMoves
+client_part c ms = record { participant = OfClient c; moves = ms }
+
+abbrev pub region_part : ℕ → List Move → PartMoves
+region_part c ms = record { participant = OfRegion c; moves = ms }
+
 -- it lists those of a history in which it takes part
 abbrev pub Lists : List Move → PartMoves → Type 0
 Lists h p = projection (takes_part p.participant) h ≡ p.moves

@@ -10,7 +10,7 @@ mod begun_call;
 mod history_laws;
 mod local_laws;
 mod moves;
-mod opening;
+mod opening_data;
 mod part_laws;
 mod together_laws;
 
@@ -21,8 +21,11 @@ pub use history_laws::{
 };
 pub use local_laws::{move_asks_its_client_and_the_kernel, move_asks_its_region_and_the_kernel};
 pub use moves::{Move, NodeCopy, SeenTurn};
-pub use opening::OpeningData;
+pub use opening_data::OpeningData;
 pub use part_laws::{
     away_region_is_its_own_moves, leases_are_those_taken, parts_are_their_own_moves,
 };
-pub use together_laws::{parts_together_have_one_run, said_move_keeps_parts_together};
+pub use together_laws::{
+    client_and_kernel_may_say, clients_may_meet, parts_together_have_one_run,
+    region_and_kernel_may_say, said_move_keeps_parts_together,
+};

@@ -1,6 +1,6 @@
 // The moves, as a type of which no value is made: so a table takes lists of them as what its seats carry.
 use crate::begun_call::BegunCall;
-use crate::opening::OpeningData;
+use crate::opening_data::OpeningData;
 use posix_calls::{Call, Errno, Operation};
 use std::collections::LinkedList;
 use std::marker::Model;
