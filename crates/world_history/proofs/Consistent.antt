@@ -20,7 +20,7 @@ use Rattle.world_history.specs.Moves.{client_of, restarts, book_numbers, unbook_
 use Rattle.world_history.specs.Conditions.{MayFollow}
 use Rattle.world_history.specs.History.{after_moves, IsHistory}
 use Rattle.world_history.specs.Participants.{is_regions, OfRegion, takes_part}
-use Rattle.world_history.proofs.WorldSteps.{at_there, mark_at_past}
+use Rattle.world_history.proofs.WorldSteps.{at_else, at_there, mark_at_past}
 use Rattle.world_history.proofs.AwayRegions.{marks_stay, region_off}
 use Rattle.world_history.proofs.Keeping.{keeps}
 use Rattle.world_history.proofs.Local.{away_is_its_clients}
@@ -163,15 +163,13 @@ module _ (s : Configuration) (x : ℕ × List Record) (con : IsConsistent s) (e 
   goes_on : (s' : Configuration) → away_in s' x.0 ≡ away_in s x.0 → mark_of s'.kernel x.0 ≡ mark_of s.kernel x.0 → s'.kernel.machine.accepted x.0 ≡ s.kernel.machine.accepted x.0 → CanDigestOf s' x.0 x.1
   goes_on s' away mark accepted =
       let fits = away_is_its_clients (s'.clients x.0) (mark_of s'.kernel x.0) (record { past = (s.clients x.0).past; records = (s.clients x.0).sealed; digested = mark_of s.kernel x.0 - (s.clients x.0).past })
-      (away ∙ ap (λ o. away_by o (s.clients x.0).past (s.clients x.0).sealed (mark_of s.kernel x.0)) is_away) in (
-        can.0,
-        record {
-          client = can.1.client;
-          some = can.1.some;
-          accepted = let low : mark_of s.kernel x.0 + length x.1 ≤ s.kernel.machine.accepted x.0 = can.1.accepted in omega (arith, low, mark, accepted);
-          split = (λ t. drop (mark t - fits.past t) (fits.sealed t)) ∙ can.1.split;
-        },
-      )
+            (away ∙ ap (λ o. away_by o (s.clients x.0).past (s.clients x.0).sealed (mark_of s.kernel x.0)) is_away) in
+      (can.0, record {
+        client = can.1.client;
+        some = can.1.some;
+        accepted = let low : mark_of s.kernel x.0 + length x.1 ≤ s.kernel.machine.accepted x.0 = can.1.accepted in omega (arith, low, mark, accepted);
+        split = (λ t. drop (mark t - fits.past t) (fits.sealed t)) ∙ can.1.split;
+      })
 
 -- ---- a move that is of no region
 
@@ -253,12 +251,6 @@ plain_goes s m con may x e r one =
     goes_on s x con was (after_move s m) (region_off s x.0 m con.coherent is_c may off) (marks_stay m s.kernel x.0 (λ records d. true≢false (sym (ap is_regions d) ∙ r)) one) (ap (λ (f : ℕ → ℕ). f x.0) (accepted_stays m s.kernel r one))
 
 -- ---- one that is of a region, and no digest
-
-at_else : {A : Type 0} (f : ℕ → A) (c : ℕ) (x : A) (d : ℕ) → d ≢ c → at f c x d ≡ f d
-at_else f c x d off = elim (eqb_tells d c) [
-  | inl same ↦ absurd (off same.1)
-  | inr other ↦ ap (λ b. cond b x (f d)) other.0
-]
 
 region_goes : (s : Configuration) (m : Move) → IsConsistent s → MayFollow s m → (x : ℕ × List Record) → s.kernel.failed_digest ≡ Some x → (x.0 ≡ client_of m → CanDigestOf (after_move s m) x.0 x.1) → restarts m ≡ false
     → mark_of (kernel_moved m s.kernel) x.0 ≡ mark_of s.kernel x.0 → ((c : ℕ) → c ≢ client_of m → (kernel_moved m s.kernel).machine.accepted c ≡ s.kernel.machine.accepted c) → CanDigestOf (after_move s m) x.0 x.1

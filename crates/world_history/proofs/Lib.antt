@@ -11,3 +11,5 @@ pub mod Leases
 pub mod Consistent
 pub mod Together
 pub mod MayBeSaid
+pub mod Entries
+pub mod SmallHistories

@@ -38,6 +38,12 @@ use Rattle.world_history.specs.Moves.{knows_replied, replied, without_blocks}
 pub at_there : {A : Type 0} (f : ℕ → A) (c : ℕ) (x : A) → at f c x c ≡ x
 at_there f c x = there_if c x (f c)
 
+pub at_else : {A : Type 0} (f : ℕ → A) (c : ℕ) (x : A) (d : ℕ) → d ≢ c → at f c x d ≡ f d
+at_else f c x d off = elim (eqb_tells d c) [
+  | inl same ↦ absurd (off same.1)
+  | inr other ↦ ap (λ b. cond b x (f d)) other.0
+]
+
 pub at_again : {A : Type 0} (f : ℕ → A) (c : ℕ) (x y : A) → at (at f c x) c y ≡ at f c y
 at_again f c x y = λ t d. there d t
   where

@@ -1,5 +1,5 @@
 -- What a part is, by the moves in which it takes part alone.
-use Rattle.std.specs.Prelude.{ℕ, ◌+◌, List, [], ◌∷◌, ◌++◌, length, Bool, Option, Some, None, if◌then◌else◌}
+use Rattle.std.specs.Prelude.{ℕ, ◌+◌, ◌==◌, ◌&&◌, List, [], ◌∷◌, ◌++◌, length, Bool, Option, Some, None, if◌then◌else◌}
 use Rattle.posix_calls.specs.Run.{Turn}
 use Rattle.world_invariant.specs.World.{Client}
 use Rattle.world_invariant.specs.LeaseSteps.{also, without}
@@ -7,8 +7,9 @@ use Rattle.world_history.specs.declared.moves.Move.{Move}
 use Rattle.world_history.specs.declared.moves.Move.TheVariants as moves
 use Rattle.world_history.specs.Configuration.{KernelPart, AwayRegion, away_in}
 use Rattle.world_history.specs.Opening.{opening_configuration}
-use Rattle.world_history.specs.Moves.{restarts, client_moved, kernel_moved}
+use Rattle.world_history.specs.Moves.{client_of, restarts, client_moved, kernel_moved}
 use Rattle.world_history.specs.History.{turn_of}
+use Rattle.world_history.specs.Participants.{is_kernels}
 
 abbrev pub kernel_after : KernelPart → List Move → KernelPart
 kernel_after k [] = k
@@ -54,6 +55,15 @@ writes_then _ has = has
 abbrev pub writes_after : (ℕ → Bool) → List Move → ℕ → Bool
 writes_after has [] = has
 writes_after has (m ∷ older) = writes_then m (writes_after has older)
+
+-- ---- how many entries of the kernel are of a client
+
+abbrev pub is_entry_of : ℕ → Move → Bool
+is_entry_of c m = is_kernels m && c == client_of m
+
+abbrev pub entries_of : ℕ → List Move → ℕ
+entries_of c [] = 0
+entries_of c (m ∷ older) = (if is_entry_of c m then 1 else 0) + entries_of c older
 
 -- ---- a region that is away
 

@@ -13,6 +13,7 @@ mod moves;
 mod opening_data;
 mod part_laws;
 mod together_laws;
+mod walk_laws;
 
 pub use begun_call::BegunCall;
 pub use history_laws::{
@@ -23,9 +24,11 @@ pub use local_laws::{move_asks_its_client_and_the_kernel, move_asks_its_region_a
 pub use moves::{Move, NodeCopy, SeenTurn};
 pub use opening_data::OpeningData;
 pub use part_laws::{
-    away_region_is_its_own_moves, leases_are_those_taken, parts_are_their_own_moves,
+    away_region_is_its_own_moves, entries_are_listed_twice, leases_are_those_taken,
+    parts_are_their_own_moves,
 };
 pub use together_laws::{
     client_and_kernel_may_say, clients_may_meet, parts_together_have_one_run,
     region_and_kernel_may_say, said_move_keeps_parts_together,
 };
+pub use walk_laws::small_history_of_a_death;

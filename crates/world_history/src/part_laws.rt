@@ -1,13 +1,13 @@
 //! What a part is, by its own moves.
 
-ghost use Rattle.std.specs.Prelude.{◌≡◌, ℕ, List, true};
+ghost use Rattle.std.specs.Prelude.{◌≡◌, ◌+◌, ℕ, List, true};
 ghost use Rattle.posix_calls.specs.Operations.{is_client};
 ghost use Rattle.world_invariant.specs.Invariant.{IsCoherent};
 ghost use Rattle.world_history.specs.declared.moves.Move.{Move};
 ghost use Rattle.world_history.specs.Configuration.{Configuration, away_in, world_of};
 ghost use Rattle.world_history.specs.History.{IsHistory, after_moves};
 ghost use Rattle.world_history.specs.Participants.{OfClient, OfKernel, OfRegion, projection, takes_part};
-ghost use Rattle.world_history.specs.Parts.{away_after, client_after, kernel_after, reads_after, writes_after};
+ghost use Rattle.world_history.specs.Parts.{away_after, client_after, entries_of, kernel_after, reads_after, writes_after};
 
 /// The kernel, and each client, are what the moves make of them in which they take part.
 pub fn parts_are_their_own_moves()
@@ -25,4 +25,9 @@ pub fn away_region_is_its_own_moves()
 pub fn leases_are_those_taken()
     ensures reads { (s : Configuration) (c : ℕ) (h : List Move) → IsHistory s h → ((after_moves s h).clients c).reads ≡ reads_after (s.clients c).reads (projection (takes_part (OfClient c)) h) }
     ensures writes { (s : Configuration) (c : ℕ) (h : List Move) → IsHistory s h → ((after_moves s h).clients c).writes ≡ writes_after (s.clients c).writes (projection (takes_part (OfClient c)) h) }
+{}
+
+/// The kernel lists as many entries of a client as the client and its region that is away list of the kernel.
+pub fn entries_are_listed_twice()
+    ensures { (c : ℕ) (h : List Move) → is_client c ≡ true → entries_of c (projection (takes_part OfKernel) h) ≡ entries_of c (projection (takes_part (OfClient c)) h) + entries_of c (projection (takes_part (OfRegion c)) h) }
 {}
