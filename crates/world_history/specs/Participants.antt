@@ -68,3 +68,6 @@ participant_at place = if nat_lt place 8 then OfClient (place + 1) else (if nat_
 abbrev pub projection : (Move → Bool) → List Move → List Move
 projection takes [] = []
 projection takes (m ∷ older) = if takes m then m ∷ projection takes older else projection takes older
+
+abbrev pub moves_of : Participant → List Move → List Move
+moves_of q h = projection (takes_part q) h

@@ -1,14 +1,16 @@
 -- What a part is, by the moves in which it takes part alone.
-use Rattle.std.specs.Prelude.{ℕ, ◌+◌, ◌==◌, ◌&&◌, List, [], ◌∷◌, ◌++◌, length, Bool, Option, Some, None, if◌then◌else◌}
+use Rattle.std.specs.Prelude.{◌≡◌, ℕ, ◌+◌, ◌==◌, ◌&&◌, List, [], ◌∷◌, ◌++◌, length, Bool, true, Option, Some, None, if◌then◌else◌}
 use Rattle.posix_calls.specs.Run.{Turn}
+use Rattle.posix_calls.specs.Operations.{is_client}
+use Rattle.world_invariant.specs.Invariant.{IsCoherent}
 use Rattle.world_invariant.specs.World.{Client}
 use Rattle.world_invariant.specs.LeaseSteps.{also, without}
 use Rattle.world_history.specs.declared.moves.Move.{Move}
 use Rattle.world_history.specs.declared.moves.Move.TheVariants as moves
-use Rattle.world_history.specs.Configuration.{KernelPart, AwayRegion, away_in}
+use Rattle.world_history.specs.Configuration.{AwayRegion, Configuration, KernelPart, away_in, world_of}
 use Rattle.world_history.specs.Opening.{opening_configuration}
 use Rattle.world_history.specs.Moves.{client_of, restarts, client_moved, kernel_moved}
-use Rattle.world_history.specs.History.{turn_of}
+use Rattle.world_history.specs.History.{NoneRestarts, turn_of}
 use Rattle.world_history.specs.Participants.{is_kernels}
 
 abbrev pub kernel_after : KernelPart → List Move → KernelPart
@@ -56,6 +58,13 @@ abbrev pub writes_after : (ℕ → Bool) → List Move → ℕ → Bool
 writes_after has [] = has
 writes_after has (m ∷ older) = writes_then m (writes_after has older)
 
+-- ---- a meeting
+
+-- in these moves of a client a meeting stands between newer and older ones, and behind it nothing has begun anew
+pub record ListsMeeting (ms newer : List Move) (clients : List ℕ) (seen : List Turn) (older : List Move) : Type 0 where
+  pub listed : ms ≡ newer ++ moves.Met clients seen ∷ older
+  pub going : NoneRestarts newer
+
 -- ---- how many entries of the kernel are of a client
 
 abbrev pub is_entry_of : ℕ → Move → Bool
@@ -66,6 +75,12 @@ entries_of c [] = 0
 entries_of c (m ∷ older) = (if is_entry_of c m then 1 else 0) + entries_of c older
 
 -- ---- a region that is away
+
+-- such a one is client c's
+pub record IsAwayIn (s : Configuration) (c : ℕ) (a : AwayRegion) : Type 0 where
+  pub coherent : IsCoherent (world_of s)
+  pub client : is_client c ≡ true
+  pub there : away_in s c ≡ Some a
 
 abbrev pub with_digested : ℕ → Option AwayRegion → Option AwayRegion
 with_digested n None = None
@@ -83,3 +98,17 @@ away_moved c _ a = a
 abbrev pub away_after : ℕ → Option AwayRegion → List Move → Option AwayRegion
 away_after c a [] = a
 away_after c a (m ∷ older) = away_moved c m (away_after c a older)
+
+-- ---- by a list that begins with a configuration
+
+abbrev pub kernel_by : Configuration → List Move → KernelPart
+kernel_by s ms = kernel_after s.kernel ms
+
+abbrev pub client_by : Configuration → ℕ → List Move → Client
+client_by s c ms = client_after c (s.clients c) ms
+
+-- by these moves of it such a region is away
+pub record IsAwayBy (s : Configuration) (c : ℕ) (ms : List Move) (a : AwayRegion) : Type 0 where
+  pub coherent : IsCoherent (world_of s)
+  pub client : is_client c ≡ true
+  pub there : away_after c (away_in s c) ms ≡ Some a

@@ -7,7 +7,7 @@ use Rattle.world_history.specs.declared.moves.Move.{Move}
 use Rattle.world_history.specs.Configuration.{Configuration}
 use Rattle.world_history.specs.Conditions.{MayFollow}
 use Rattle.world_history.specs.History.{after_moves, IsHistory, SeesAll, opening_of}
-use Rattle.world_history.specs.Participants.{Participant, OfKernel, OfClient, OfRegion, takes_part, projection}
+use Rattle.world_history.specs.Participants.{Participant, OfKernel, OfClient, OfRegion, takes_part, moves_of}
 use Rattle.world_history.specs.Parts.{turns_of, seen_by}
 
 -- each of a list is so
@@ -45,7 +45,7 @@ region_part c ms = record { participant = OfRegion c; moves = ms }
 
 -- it lists those of a history in which it takes part
 abbrev pub Lists : List Move → PartMoves → Type 0
-Lists h p = projection (takes_part p.participant) h ≡ p.moves
+Lists h p = moves_of p.participant h ≡ p.moves
 
 pub record Together (s : Configuration) (parts : List PartMoves) : Type 0 where
   pub history : List Move

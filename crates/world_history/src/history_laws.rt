@@ -1,16 +1,16 @@
 //! What a history keeps, and what its turns are.
 
-ghost use Rattle.std.specs.Prelude.{◌≡◌, ◌++◌, ◌∷◌, ℕ, List, Some};
+ghost use Rattle.std.specs.Prelude.{◌≡◌, ◌++◌, ℕ, List, Some};
 ghost use Rattle.posix_calls.specs.Run.{Run, Turn};
 ghost use Rattle.world_invariant.specs.Invariant.{IsCoherent};
 ghost use Rattle.world_invariant.specs.World.{Away};
 ghost use Rattle.world_invariant.specs.log_record.declared.format.Record.{Record};
 ghost use Rattle.world_history.specs.declared.moves.Move.{Move};
-ghost use Rattle.world_history.specs.declared.moves.Move.TheVariants.{Met};
+
 ghost use Rattle.world_history.specs.Configuration.{Configuration, IsConsistent, plain, tree_of, world_of};
-ghost use Rattle.world_history.specs.History.{IsHistory, NoneRestarts, after_moves, opening_of, turns_in};
-ghost use Rattle.world_history.specs.Participants.{OfClient, projection, takes_part};
-ghost use Rattle.world_history.specs.Parts.{seen_by, turns_of};
+ghost use Rattle.world_history.specs.History.{IsHistory, after_moves, opening_of, turns_in};
+ghost use Rattle.world_history.specs.Participants.{OfClient, moves_of};
+ghost use Rattle.world_history.specs.Parts.{ListsMeeting, seen_by, turns_of};
 ghost use Rattle.world_history.specs.Together.{turns_by};
 
 /// After a history all holds of the world that held before it, and its turns are one run of the file tree: from the tree with which all parts began
@@ -33,13 +33,13 @@ pub fn failed_digest_keeps_its_region_away()
 
 /// The turns of a client in the run are those of its own list, in their order.
 pub fn turns_follow_from_own_moves()
-    ensures { (s : Configuration) (c : ℕ) (h : List Move) → turns_by c (turns_in s h) ≡ turns_of c (s.clients c) (projection (takes_part (OfClient c)) h) }
+    ensures { (s : Configuration) (c : ℕ) (h : List Move) → turns_by c (turns_in s h) ≡ turns_of c (s.clients c) (moves_of (OfClient c) h) }
 {}
 
 /// The run begins with what a client saw when it met others last; and so with what it saw at each meeting since all parts began anew, in which there are just those turns of
 /// the client that it had made before.
 pub fn history_begins_with_what_was_seen()
-    ensures last { (s : Configuration) (c : ℕ) (h : List Move) → IsHistory s h → (rest : List Turn) × (turns_in s h ≡ seen_by (projection (takes_part (OfClient c)) h) ++ rest) }
-    ensures each { (s : Configuration) (c : ℕ) (h newer older : List Move) (clients : List ℕ) (seen : List Turn) → IsHistory s h → projection (takes_part (OfClient c)) h ≡ newer ++ Met clients seen ∷ older → NoneRestarts newer → (rest : List Turn) × (turns_in s h ≡ seen ++ rest) }
-    ensures own { (s : Configuration) (c : ℕ) (h newer older : List Move) (clients : List ℕ) (seen : List Turn) → IsHistory s h → projection (takes_part (OfClient c)) h ≡ newer ++ Met clients seen ∷ older → NoneRestarts newer → turns_by c seen ≡ turns_of c (s.clients c) older }
+    ensures last { (s : Configuration) (c : ℕ) (h : List Move) → IsHistory s h → (rest : List Turn) × (turns_in s h ≡ seen_by (moves_of (OfClient c) h) ++ rest) }
+    ensures each { (s : Configuration) (c : ℕ) (h newer older : List Move) (clients : List ℕ) (seen : List Turn) → IsHistory s h → ListsMeeting (moves_of (OfClient c) h) newer clients seen older → (rest : List Turn) × (turns_in s h ≡ seen ++ rest) }
+    ensures own { (s : Configuration) (c : ℕ) (h newer older : List Move) (clients : List ℕ) (seen : List Turn) → IsHistory s h → ListsMeeting (moves_of (OfClient c) h) newer clients seen older → turns_by c seen ≡ turns_of c (s.clients c) older }
 {}

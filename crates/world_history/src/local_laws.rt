@@ -1,6 +1,6 @@
 //! What a move asks is asked of those who take part in it.
 
-ghost use Rattle.std.specs.Prelude.{◌≡◌, ◌+◌, ◌++◌, ℕ, List, length, true, false, Some, None};
+ghost use Rattle.std.specs.Prelude.{◌≡◌, ◌+◌, ◌++◌, ℕ, List, length, true, false, None};
 ghost use Rattle.posix_calls.specs.Operations.{is_client};
 ghost use Rattle.world_invariant.specs.Invariant.{IsCoherent};
 ghost use Rattle.world_invariant.specs.Logs.{is_written};
@@ -9,8 +9,9 @@ ghost use Rattle.world_invariant.specs.log_record.declared.format.Record.{Record
 ghost use Rattle.world_history.specs.declared.moves.Move.{Move};
 ghost use Rattle.world_history.specs.declared.moves.Move.TheVariants.{Accepted, DigestFailed, Digested, Gave, Joined, TookBack};
 ghost use Rattle.world_history.specs.Conditions.{IsGoing, MayFollow};
-ghost use Rattle.world_history.specs.Configuration.{AwayRegion, Configuration, KernelPart, as_sealed, away_in, world_of};
+ghost use Rattle.world_history.specs.Configuration.{AwayRegion, Configuration, KernelPart, as_sealed, world_of};
 ghost use Rattle.world_history.specs.Locality.{IsLocal, asks_locally, local};
+ghost use Rattle.world_history.specs.Parts.{IsAwayIn};
 
 /// A move that asks nothing of others' leases, of a region that is away, of a mark or of the turns so far may follow where its client, and the kernel where that takes part, say so by themselves.
 /// A lease may be given where the client's own records, digested or not, don't touch its inode; and a new client may join by what the client alone says.
@@ -22,8 +23,8 @@ pub fn move_asks_its_client_and_the_kernel()
 
 /// A region that is away is taken back where its own part says that all its records are digested; and accepted and digested by what it and the kernel say.
 pub fn move_asks_its_region_and_the_kernel()
-    ensures took_back { (s : Configuration) (c : ℕ) (a : AwayRegion) → IsCoherent (world_of s) → is_client c ≡ true → away_in s c ≡ Some a → a.digested ≡ length a.records → MayFollow s (TookBack c) }
-    ensures accepted { (s : Configuration) (c : ℕ) (a : AwayRegion) → IsCoherent (world_of s) → is_client c ≡ true → away_in s c ≡ Some a → CanAccept s.kernel.machine c (as_sealed a) → MayFollow s (Accepted c (a.past + length a.records)) }
-    ensures digested { (s : Configuration) (c : ℕ) (a : AwayRegion) (records rest : List Record) → IsCoherent (world_of s) → is_client c ≡ true → away_in s c ≡ Some a → IsGoing s → CanDigestNext s.kernel.machine c (as_sealed a) records rest → MayFollow s (Digested c records) }
-    ensures digest_failed { (s : Configuration) (c : ℕ) (a : AwayRegion) (records rest : List Record) → IsCoherent (world_of s) → is_client c ≡ true → away_in s c ≡ Some a → IsGoing s → CanDigestNext s.kernel.machine c (as_sealed a) records rest → MayFollow s (DigestFailed c records) }
+    ensures took_back { (s : Configuration) (c : ℕ) (a : AwayRegion) → IsAwayIn s c a → a.digested ≡ length a.records → MayFollow s (TookBack c) }
+    ensures accepted { (s : Configuration) (c : ℕ) (a : AwayRegion) → IsAwayIn s c a → CanAccept s.kernel.machine c (as_sealed a) → MayFollow s (Accepted c (a.past + length a.records)) }
+    ensures digested { (s : Configuration) (c : ℕ) (a : AwayRegion) (records rest : List Record) → IsAwayIn s c a → IsGoing s → CanDigestNext s.kernel.machine c (as_sealed a) records rest → MayFollow s (Digested c records) }
+    ensures digest_failed { (s : Configuration) (c : ℕ) (a : AwayRegion) (records rest : List Record) → IsAwayIn s c a → IsGoing s → CanDigestNext s.kernel.machine c (as_sealed a) records rest → MayFollow s (DigestFailed c records) }
 {}

@@ -6,28 +6,28 @@ ghost use Rattle.world_invariant.specs.Invariant.{IsCoherent};
 ghost use Rattle.world_history.specs.declared.moves.Move.{Move};
 ghost use Rattle.world_history.specs.Configuration.{Configuration, away_in, world_of};
 ghost use Rattle.world_history.specs.History.{IsHistory, after_moves};
-ghost use Rattle.world_history.specs.Participants.{OfClient, OfKernel, OfRegion, projection, takes_part};
+ghost use Rattle.world_history.specs.Participants.{OfClient, OfKernel, OfRegion, moves_of};
 ghost use Rattle.world_history.specs.Parts.{away_after, client_after, entries_of, kernel_after, reads_after, writes_after};
 
 /// The kernel, and each client, are what the moves make of them in which they take part.
 pub fn parts_are_their_own_moves()
-    ensures kernel { (s : Configuration) (h : List Move) → (after_moves s h).kernel ≡ kernel_after s.kernel (projection (takes_part OfKernel) h) }
-    ensures client { (s : Configuration) (c : ℕ) (h : List Move) → (after_moves s h).clients c ≡ client_after c (s.clients c) (projection (takes_part (OfClient c)) h) }
+    ensures kernel { (s : Configuration) (h : List Move) → (after_moves s h).kernel ≡ kernel_after s.kernel (moves_of OfKernel h) }
+    ensures client { (s : Configuration) (c : ℕ) (h : List Move) → (after_moves s h).clients c ≡ client_after c (s.clients c) (moves_of (OfClient c) h) }
 {}
 
 /// A client's region that is away is what its own moves make of it. In that its client and the kernel agree: its records are the client's sealed ones, and as many of them are digested
 /// as the mark says.
 pub fn away_region_is_its_own_moves()
-    ensures { (s : Configuration) (c : ℕ) (h : List Move) → is_client c ≡ true → IsCoherent (world_of s) → IsHistory s h → away_in (after_moves s h) c ≡ away_after c (away_in s c) (projection (takes_part (OfRegion c)) h) }
+    ensures { (s : Configuration) (c : ℕ) (h : List Move) → is_client c ≡ true → IsCoherent (world_of s) → IsHistory s h → away_in (after_moves s h) c ≡ away_after c (away_in s c) (moves_of (OfRegion c) h) }
 {}
 
 /// A client's leases are those that it took and did not give since.
 pub fn leases_are_those_taken()
-    ensures reads { (s : Configuration) (c : ℕ) (h : List Move) → IsHistory s h → ((after_moves s h).clients c).reads ≡ reads_after (s.clients c).reads (projection (takes_part (OfClient c)) h) }
-    ensures writes { (s : Configuration) (c : ℕ) (h : List Move) → IsHistory s h → ((after_moves s h).clients c).writes ≡ writes_after (s.clients c).writes (projection (takes_part (OfClient c)) h) }
+    ensures reads { (s : Configuration) (c : ℕ) (h : List Move) → IsHistory s h → ((after_moves s h).clients c).reads ≡ reads_after (s.clients c).reads (moves_of (OfClient c) h) }
+    ensures writes { (s : Configuration) (c : ℕ) (h : List Move) → IsHistory s h → ((after_moves s h).clients c).writes ≡ writes_after (s.clients c).writes (moves_of (OfClient c) h) }
 {}
 
 /// The kernel lists as many entries of a client as the client and its region that is away list of the kernel.
 pub fn entries_are_listed_twice()
-    ensures { (c : ℕ) (h : List Move) → is_client c ≡ true → entries_of c (projection (takes_part OfKernel) h) ≡ entries_of c (projection (takes_part (OfClient c)) h) + entries_of c (projection (takes_part (OfRegion c)) h) }
+    ensures { (c : ℕ) (h : List Move) → is_client c ≡ true → entries_of c (moves_of OfKernel h) ≡ entries_of c (moves_of (OfClient c) h) + entries_of c (moves_of (OfRegion c) h) }
 {}

@@ -1,6 +1,6 @@
 //! What some parts say of one another, and what they may say.
 
-ghost use Rattle.std.specs.Prelude.{◌≡◌, ◌+◌, ◌++◌, ◌∷◌, [], ℕ, List, length, map, true, false, Some, None};
+ghost use Rattle.std.specs.Prelude.{◌≡◌, ◌+◌, ◌++◌, ◌∷◌, [], ℕ, List, length, map, true, false, None};
 ghost use Rattle.posix_calls.specs.Operations.{is_client};
 ghost use Rattle.posix_calls.specs.Run.{Turn};
 ghost use Rattle.world_invariant.specs.Invariant.{IsCoherent};
@@ -11,11 +11,11 @@ ghost use Rattle.world_invariant.specs.log_record.declared.format.Record.{Record
 ghost use Rattle.world_history.specs.declared.moves.Move.{Move};
 ghost use Rattle.world_history.specs.declared.moves.Move.TheVariants.{Accepted, DigestFailed, Digested, Gave, Joined, Met, Reclaimed, TookBack};
 ghost use Rattle.world_history.specs.Conditions.{MayFollow};
-ghost use Rattle.world_history.specs.Configuration.{AwayRegion, Configuration, KernelPart, as_sealed, away_in, world_of};
+ghost use Rattle.world_history.specs.Configuration.{AwayRegion, Configuration, KernelPart, as_sealed, world_of};
 ghost use Rattle.world_history.specs.Locality.{asks_locally, local};
 ghost use Rattle.world_history.specs.Moves.{client_of};
 ghost use Rattle.world_history.specs.Participants.{is_kernels};
-ghost use Rattle.world_history.specs.Parts.{away_after, client_after, kernel_after};
+ghost use Rattle.world_history.specs.Parts.{IsAwayBy, client_by, kernel_by};
 ghost use Rattle.world_history.specs.Together.{Every, HasTurnsOf, HaveOneRun, MayBeSaid, PartMoves, Together, client_part, kernel_part, region_part, with_move};
 
 /// Parts that list moves of one history have one run of the file tree, in which the turns of each client among them are
@@ -36,20 +36,20 @@ pub fn said_move_keeps_parts_together()
 /// them. A client may give a lease where no record of its list touches the inode, and join by its list alone; and the
 /// kernel may reclaim a file by its own.
 pub fn client_and_kernel_may_say()
-    ensures client { (s : Configuration) (c : ℕ) (ms : List Move) (k : KernelPart) (m : Move) → asks_locally m ≡ true → is_kernels m ≡ false → client_of m ≡ c → MayFollow (local k (client_after c (s.clients c) ms)) m → MayBeSaid s (client_part c ms ∷ []) m }
-    ensures both { (s : Configuration) (c : ℕ) (ms ks : List Move) (m : Move) → asks_locally m ≡ true → client_of m ≡ c → MayFollow (local (kernel_after s.kernel ks) (client_after c (s.clients c) ms)) m → MayBeSaid s (client_part c ms ∷ kernel_part ks ∷ []) m }
-    ensures gives { (s : Configuration) (c i : ℕ) (ms : List Move) → is_client c ≡ true → (client_after c (s.clients c) ms).begun ≡ None → is_written i ((client_after c (s.clients c) ms).sealed ++ (client_after c (s.clients c) ms).current) ≡ false → MayBeSaid s (client_part c ms ∷ []) (Gave c i) }
-    ensures joins { (s : Configuration) (c mark : ℕ) (ms : List Move) (k : KernelPart) → IsCoherent (world_of s) → MayFollow (local k (client_after c (s.clients c) ms)) (Joined c mark) → MayBeSaid s (client_part c ms ∷ []) (Joined c mark) }
-    ensures reclaims { (s : Configuration) (i : ℕ) (ks : List Move) → (kernel_after s.kernel ks).failed_digest ≡ None → CanReclaim (kernel_after s.kernel ks).machine.kernel i → MayBeSaid s (kernel_part ks ∷ []) (Reclaimed i) }
+    ensures client { (s : Configuration) (c : ℕ) (ms : List Move) (k : KernelPart) (m : Move) → asks_locally m ≡ true → is_kernels m ≡ false → client_of m ≡ c → MayFollow (local k (client_by s c ms)) m → MayBeSaid s (client_part c ms ∷ []) m }
+    ensures both { (s : Configuration) (c : ℕ) (ms ks : List Move) (m : Move) → asks_locally m ≡ true → client_of m ≡ c → MayFollow (local (kernel_by s ks) (client_by s c ms)) m → MayBeSaid s (client_part c ms ∷ kernel_part ks ∷ []) m }
+    ensures gives { (s : Configuration) (c i : ℕ) (ms : List Move) → is_client c ≡ true → (client_by s c ms).begun ≡ None → is_written i ((client_by s c ms).sealed ++ (client_by s c ms).current) ≡ false → MayBeSaid s (client_part c ms ∷ []) (Gave c i) }
+    ensures joins { (s : Configuration) (c mark : ℕ) (ms : List Move) (k : KernelPart) → IsCoherent (world_of s) → MayFollow (local k (client_by s c ms)) (Joined c mark) → MayBeSaid s (client_part c ms ∷ []) (Joined c mark) }
+    ensures reclaims { (s : Configuration) (i : ℕ) (ks : List Move) → (kernel_by s ks).failed_digest ≡ None → CanReclaim (kernel_by s ks).machine.kernel i → MayBeSaid s (kernel_part ks ∷ []) (Reclaimed i) }
 {}
 
 /// A region that is away may say that it is back once all its records are digested, and it and the kernel that it is
 /// accepted, that records of it are digested, and that a device failed in it, by what their own lists make of them.
 pub fn region_and_kernel_may_say()
-    ensures back { (s : Configuration) (c : ℕ) (ms : List Move) (a : AwayRegion) → IsCoherent (world_of s) → is_client c ≡ true → away_after c (away_in s c) ms ≡ Some a → a.digested ≡ length a.records → MayBeSaid s (region_part c ms ∷ []) (TookBack c) }
-    ensures accepted { (s : Configuration) (c : ℕ) (ms ks : List Move) (a : AwayRegion) → IsCoherent (world_of s) → is_client c ≡ true → away_after c (away_in s c) ms ≡ Some a → CanAccept (kernel_after s.kernel ks).machine c (as_sealed a) → MayBeSaid s (region_part c ms ∷ kernel_part ks ∷ []) (Accepted c (a.past + length a.records)) }
-    ensures digested { (s : Configuration) (c : ℕ) (ms ks : List Move) (a : AwayRegion) (records rest : List Record) → IsCoherent (world_of s) → is_client c ≡ true → away_after c (away_in s c) ms ≡ Some a → (kernel_after s.kernel ks).failed_digest ≡ None → CanDigestNext (kernel_after s.kernel ks).machine c (as_sealed a) records rest → MayBeSaid s (region_part c ms ∷ kernel_part ks ∷ []) (Digested c records) }
-    ensures failed { (s : Configuration) (c : ℕ) (ms ks : List Move) (a : AwayRegion) (records rest : List Record) → IsCoherent (world_of s) → is_client c ≡ true → away_after c (away_in s c) ms ≡ Some a → (kernel_after s.kernel ks).failed_digest ≡ None → CanDigestNext (kernel_after s.kernel ks).machine c (as_sealed a) records rest → MayBeSaid s (region_part c ms ∷ kernel_part ks ∷ []) (DigestFailed c records) }
+    ensures back { (s : Configuration) (c : ℕ) (ms : List Move) (a : AwayRegion) → IsAwayBy s c ms a → a.digested ≡ length a.records → MayBeSaid s (region_part c ms ∷ []) (TookBack c) }
+    ensures accepted { (s : Configuration) (c : ℕ) (ms ks : List Move) (a : AwayRegion) → IsAwayBy s c ms a → CanAccept (kernel_by s ks).machine c (as_sealed a) → MayBeSaid s (region_part c ms ∷ kernel_part ks ∷ []) (Accepted c (a.past + length a.records)) }
+    ensures digested { (s : Configuration) (c : ℕ) (ms ks : List Move) (a : AwayRegion) (records rest : List Record) → IsAwayBy s c ms a → (kernel_by s ks).failed_digest ≡ None → CanDigestNext (kernel_by s ks).machine c (as_sealed a) records rest → MayBeSaid s (region_part c ms ∷ kernel_part ks ∷ []) (Digested c records) }
+    ensures failed { (s : Configuration) (c : ℕ) (ms ks : List Move) (a : AwayRegion) (records rest : List Record) → IsAwayBy s c ms a → (kernel_by s ks).failed_digest ≡ None → CanDigestNext (kernel_by s ks).machine c (as_sealed a) records rest → MayBeSaid s (region_part c ms ∷ kernel_part ks ∷ []) (DigestFailed c records) }
 {}
 
 /// Clients among parts that are together may meet: they see turns in which those of each client are those of its list,

@@ -4,8 +4,8 @@ ghost use Rattle.std.specs.Prelude.{◌≡◌};
 ghost use Rattle.posix_calls.specs.EmptyTree.{empty_state};
 ghost use Rattle.posix_calls.specs.Run.{Run};
 ghost use Rattle.world_history.specs.Configuration.{IsConsistent, tree_of};
-ghost use Rattle.world_history.specs.History.{IsHistory, after_moves, turns_in};
-ghost use Rattle.world_history.specs.Participants.{OfClient, projection, takes_part};
+ghost use Rattle.world_history.specs.History.{IsHistory, after_moves};
+ghost use Rattle.world_history.specs.Participants.{OfClient, moves_of};
 ghost use Rattle.world_history.specs.Parts.{seen_by};
 ghost use Rattle.world_history.specs.SmallHistory.{small_history, small_start, small_turns};
 
@@ -16,5 +16,5 @@ pub fn small_history_of_a_death()
     ensures begins { IsConsistent small_start }
     ensures follows { IsHistory small_start small_history }
     ensures run { Run empty_state small_turns (tree_of (after_moves small_start small_history)) }
-    ensures seen { seen_by (projection (takes_part (OfClient 2)) small_history) ≡ small_turns }
+    ensures seen { seen_by (moves_of (OfClient 2) small_history) ≡ small_turns }
 {}

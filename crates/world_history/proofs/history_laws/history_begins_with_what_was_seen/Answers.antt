@@ -5,7 +5,7 @@ pub returns-clause-last : goal.returns-clause-last
 returns-clause-last r s c h is = seen_begins s c h is
 
 pub returns-clause-each : goal.returns-clause-each
-returns-clause-each r s c h newer older clients seen is e none = (meeting_begins s c h is newer clients seen older e none).0
+returns-clause-each r s c h newer older clients seen is meeting = (meeting_begins s c h is newer clients seen older meeting.listed meeting.going).0
 
 pub returns-clause-own : goal.returns-clause-own
-returns-clause-own r s c h newer older clients seen is e none = (meeting_begins s c h is newer clients seen older e none).1
+returns-clause-own r s c h newer older clients seen is meeting = (meeting_begins s c h is newer clients seen older meeting.listed meeting.going).1
