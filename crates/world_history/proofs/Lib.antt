@@ -13,3 +13,4 @@ pub mod Together
 pub mod MayBeSaid
 pub mod Entries
 pub mod SmallHistories
+pub mod Listings

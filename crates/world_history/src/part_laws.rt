@@ -15,8 +15,8 @@ pub fn parts_are_their_own_moves()
     ensures client { (s : Configuration) (c : ℕ) (h : List Move) → (after_moves s h).clients c ≡ client_after c (s.clients c) (moves_of (OfClient c) h) }
 {}
 
-/// A client's region that is away is what its own moves make of it. In that its client and the kernel agree: its records are the client's sealed ones, and as many of them are digested
-/// as the mark says.
+/// A client's region that is away is what its own moves make of it. In that its client and the kernel agree: its records are the
+/// client's sealed ones, and as many of them are digested as the mark says.
 pub fn away_region_is_its_own_moves()
     ensures { (s : Configuration) (c : ℕ) (h : List Move) → is_client c ≡ true → IsCoherent (world_of s) → IsHistory s h → away_in (after_moves s h) c ≡ away_after c (away_in s c) (moves_of (OfRegion c) h) }
 {}

@@ -18,23 +18,23 @@ ghost use Rattle.world_history.specs.Participants.{is_kernels};
 ghost use Rattle.world_history.specs.Parts.{IsAwayBy, client_by, kernel_by};
 ghost use Rattle.world_history.specs.Together.{Every, HasTurnsOf, HaveOneRun, MayBeSaid, PartMoves, Together, client_part, kernel_part, region_part, with_move};
 
-/// Parts that list moves of one history have one run of the file tree, in which the turns of each client among them are
-/// those of its list, behind what it saw.
+/// Parts that list moves of one history have one run of the file tree, in which the turns of each client among them are those of its
+/// list, behind what it saw.
 pub fn parts_together_have_one_run()
     ensures { (s : Configuration) (parts : List PartMoves) → IsCoherent (world_of s) → Together s parts → HaveOneRun s parts }
 {}
 
-/// They stay together as a move is said that may follow every history of which they list their moves, and as one of
-/// them leaves. What some may say, these and another one may.
+/// They stay together as a move is said that may follow every history of which they list their moves, and as one of them leaves. What
+/// some may say, these and another one may.
 pub fn said_move_keeps_parts_together()
     ensures said { (s : Configuration) (parts : List PartMoves) (m : Move) → Together s parts → MayBeSaid s parts m → Together s (map (with_move m) parts) }
     ensures fewer { (s : Configuration) (p : PartMoves) (parts : List PartMoves) → Together s (p ∷ parts) → Together s parts }
     ensures more { (s : Configuration) (p : PartMoves) (parts : List PartMoves) (m : Move) → MayBeSaid s parts m → MayBeSaid s (p ∷ parts) m }
 {}
 
-/// A client, and the kernel beside it where that takes part, may say what may follow by what their own lists make of
-/// them. A client may give a lease where no record of its list touches the inode, and join by its list alone; and the
-/// kernel may reclaim a file by its own.
+/// A client, and the kernel beside it where that takes part, may say what may follow by what their own lists make of them. A client may
+/// give a lease where no record of its list touches the inode, and join by its list alone; and the kernel may reclaim a file by its
+/// own.
 pub fn client_and_kernel_may_say()
     ensures client { (s : Configuration) (c : ℕ) (ms : List Move) (k : KernelPart) (m : Move) → asks_locally m ≡ true → is_kernels m ≡ false → client_of m ≡ c → MayFollow (local k (client_by s c ms)) m → MayBeSaid s (client_part c ms ∷ []) m }
     ensures both { (s : Configuration) (c : ℕ) (ms ks : List Move) (m : Move) → asks_locally m ≡ true → client_of m ≡ c → MayFollow (local (kernel_by s ks) (client_by s c ms)) m → MayBeSaid s (client_part c ms ∷ kernel_part ks ∷ []) m }
@@ -43,8 +43,8 @@ pub fn client_and_kernel_may_say()
     ensures reclaims { (s : Configuration) (i : ℕ) (ks : List Move) → (kernel_by s ks).failed_digest ≡ None → CanReclaim (kernel_by s ks).machine.kernel i → MayBeSaid s (kernel_part ks ∷ []) (Reclaimed i) }
 {}
 
-/// A region that is away may say that it is back once all its records are digested, and it and the kernel that it is
-/// accepted, that records of it are digested, and that a device failed in it, by what their own lists make of them.
+/// A region that is away may say that it is back once all its records are digested, and it and the kernel that it is accepted, that
+/// records of it are digested, and that a device failed in it, by what their own lists make of them.
 pub fn region_and_kernel_may_say()
     ensures back { (s : Configuration) (c : ℕ) (ms : List Move) (a : AwayRegion) → IsAwayBy s c ms a → a.digested ≡ length a.records → MayBeSaid s (region_part c ms ∷ []) (TookBack c) }
     ensures accepted { (s : Configuration) (c : ℕ) (ms ks : List Move) (a : AwayRegion) → IsAwayBy s c ms a → CanAccept (kernel_by s ks).machine c (as_sealed a) → MayBeSaid s (region_part c ms ∷ kernel_part ks ∷ []) (Accepted c (a.past + length a.records)) }
@@ -52,8 +52,8 @@ pub fn region_and_kernel_may_say()
     ensures failed { (s : Configuration) (c : ℕ) (ms ks : List Move) (a : AwayRegion) (records rest : List Record) → IsAwayBy s c ms a → (kernel_by s ks).failed_digest ≡ None → CanDigestNext (kernel_by s ks).machine c (as_sealed a) records rest → MayBeSaid s (region_part c ms ∷ kernel_part ks ∷ []) (DigestFailed c records) }
 {}
 
-/// Clients among parts that are together may meet: they see turns in which those of each client are those of its list,
-/// behind what it had seen before.
+/// Clients among parts that are together may meet: they see turns in which those of each client are those of its list, behind what it
+/// had seen before.
 pub fn clients_may_meet()
     ensures { (s : Configuration) (parts : List PartMoves) (clients : List ℕ) → Together s parts → (seen : List Turn) × Together s (map (with_move (Met clients seen)) parts) × Every (HasTurnsOf s seen) parts }
 {}
