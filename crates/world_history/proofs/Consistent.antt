@@ -302,3 +302,12 @@ consistent_goes s m con may = record { coherent = (keeps s m con.coherent may).0
 pub consistent_keeps : (s : Configuration) (h : List Move) → IsConsistent s → IsHistory s h → IsConsistent (after_moves s h)
 consistent_keeps s [] con is = con
 consistent_keeps s (m ∷ older) con is = consistent_goes (after_moves s older) m (consistent_keeps s older con is.1) is.0.0
+
+-- ---- where every region is back
+
+none_failed : (s : Configuration) (o : Option (ℕ × List Record)) → s.kernel.failed_digest ≡ o → IsConsistent s → MayFollow s moves.Rejoined → s.kernel.failed_digest ≡ None
+none_failed s None e con back = e
+none_failed s (Some x) e con back = absurd (back x.0 (con.failed x e).1.client (is_away s x con e))
+
+pub rejoined_going : (s : Configuration) → IsConsistent s → MayFollow s moves.Rejoined → s.kernel.failed_digest ≡ None
+rejoined_going s con back = none_failed s s.kernel.failed_digest refl con back

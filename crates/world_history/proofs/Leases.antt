@@ -1,12 +1,14 @@
 -- The leases of a client are those that it took and did not give.
-use Rattle.std.proofs.Common.{◌≡◌, inl, inr, ℕ, ◌==◌, Bool, true, false, List, [], ◌∷◌, refl, Some, None, Option, sym, ap, ◌∙◌, true≢false}
+use Rattle.std.proofs.Common.{◌≡◌, ◌≢◌, inl, inr, ℕ, ◌==◌, Bool, true, false, List, [], ◌∷◌, refl, Some, None, Option, sym, ap, ◌∙◌, true≢false}
 use Rattle.std.specs.Prelude.{◌&&◌, ◌||◌}
 use Rattle.std.proofs.lemmas.Bool.Decides.{eqb_tells}
+use Rattle.posix_calls.specs.Operations.{is_client}
+use Rattle.world_invariant.specs.LeaseSteps.{IsUnheld, IsUnwritten}
 use Rattle.world_invariant.specs.World.{Begun, Client}
 use Rattle.world_invariant.proofs.Records.{either}
 use Rattle.world_history.specs.declared.moves.Move.{Move}
 use Rattle.world_history.specs.declared.moves.Move.TheVariants as moves
-use Rattle.world_history.specs.Configuration.{Configuration}
+use Rattle.world_history.specs.Configuration.{Configuration, world_of}
 use Rattle.world_history.specs.Moves.{client_moved, replied, gave_up}
 use Rattle.world_history.specs.Conditions.{HoldsNothing, MayFollow}
 use Rattle.world_history.specs.History.{after_moves, IsHistory}
@@ -81,3 +83,13 @@ leases_are s c (m ∷ older) is =
           ap (λ (p : Client). p.writes) (takes_off then c m off) ∙ before.1 ∙ sym (ap (writes_after (s.clients c).writes) (unprojected (takes_part (OfClient c)) m older off))
         )
     ]
+
+-- ---- a lease that nobody else holds
+
+module _ (s : Configuration) (c i : ℕ) (h : List Move) (is : IsHistory s h) where
+  pub unwritten : ((d : ℕ) → is_client d ≡ true → d ≢ c → writes_after (s.clients d).writes (projection (takes_part (OfClient d)) h) i ≡ false) → IsUnwritten (world_of (after_moves s h)) c i
+  unwritten none d is_d off = ap (λ (has : ℕ → Bool). has i) (leases_are s d h is).1 ∙ none d is_d off
+
+  pub unheld : ((d : ℕ) → is_client d ≡ true → d ≢ c → (reads_after (s.clients d).reads (projection (takes_part (OfClient d)) h) i || writes_after (s.clients d).writes (projection (takes_part (OfClient d)) h) i) ≡ false)
+      → IsUnheld (world_of (after_moves s h)) c i
+  unheld none d is_d off = (λ t. (leases_are s d h is).0 t i || (leases_are s d h is).1 t i) ∙ none d is_d off

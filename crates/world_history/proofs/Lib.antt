@@ -14,3 +14,4 @@ pub mod MayBeSaid
 pub mod Entries
 pub mod SmallHistories
 pub mod Listings
+pub mod Whole

@@ -55,7 +55,7 @@ restarted_stays (moves.Met clients seen) old e = refl
 restarted_stays (moves.Shared o) old e = absurd (true≢false e)
 restarted_stays moves.Rejoined old e = absurd (true≢false e)
 
-same_opening : (s : Configuration) (takes : Move → Bool) → ((m : Move) → restarts m ≡ true → takes m ≡ true) → (h : List Move) → opening_of s (projection takes h) ≡ opening_of s h
+pub same_opening : (s : Configuration) (takes : Move → Bool) → ((m : Move) → restarts m ≡ true → takes m ≡ true) → (h : List Move) → opening_of s (projection takes h) ≡ opening_of s h
 same_opening s takes all [] = refl
 same_opening s takes all (m ∷ older) = elim (either (takes m)) [
   | inl on ↦ ap (opening_of s) (projected takes m older on) ∙ ap (restarted m) (same_opening s takes all older)

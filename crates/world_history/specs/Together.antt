@@ -4,11 +4,11 @@ use Rattle.posix_calls.specs.Tree.{State}
 use Rattle.posix_calls.specs.Operations.{is_client}
 use Rattle.posix_calls.specs.Run.{Turn, Asked, Departs, Run}
 use Rattle.world_history.specs.declared.moves.Move.{Move}
-use Rattle.world_history.specs.Configuration.{Configuration}
+use Rattle.world_history.specs.Configuration.{Configuration, tree_of}
 use Rattle.world_history.specs.Conditions.{MayFollow}
 use Rattle.world_history.specs.History.{after_moves, IsHistory, SeesAll, opening_of}
 use Rattle.world_history.specs.Participants.{Participant, OfKernel, OfClient, OfRegion, takes_part, moves_of}
-use Rattle.world_history.specs.Parts.{turns_of, seen_by}
+use Rattle.world_history.specs.Parts.{client_by, kernel_by, seen_by, turns_of}
 
 -- each of a list is so
 abbrev pub Every : {A : Type 0} → (A → Type 0) → List A → Type 0
@@ -82,4 +82,24 @@ pub record HaveOneRun (s : Configuration) (parts : List PartMoves) : Type 0 wher
   pub run : Run first turns last
   pub opening : Every (λ p. opening_of s p.moves ≡ first) parts
   pub listed : Every (HasTurnsOf s turns) parts
+  pub clients : Every (λ t. is_client (turner t) ≡ true) turns
+
+-- ---- all parts
+
+-- what the kernel and the clients make by their lists
+abbrev pub configuration_by : Configuration → List Move → (ℕ → List Move) → Configuration
+configuration_by s ks ms = record { kernel = kernel_by s ks; clients = λ c. client_by s c (ms c) }
+
+-- the kernel and all clients list their moves of one history
+pub record AllTogether (s : Configuration) (ks : List Move) (ms : ℕ → List Move) : Type 0 where
+  pub history : List Move
+  pub legal : IsHistory s history
+  pub kernel : moves_of OfKernel history ≡ ks
+  pub clients : (c : ℕ) → is_client c ≡ true → moves_of (OfClient c) history ≡ ms c
+
+-- One run has the turns of all clients and no other ones. It begins with what each of them saw, and leads from the opening to the tree that they make.
+pub record HaveWholeRun (s : Configuration) (ks : List Move) (ms : ℕ → List Move) : Type 0 where
+  pub turns : List Turn
+  pub run : Run (opening_of s ks) turns (tree_of (configuration_by s ks ms))
+  pub listed : (c : ℕ) → is_client c ≡ true → Has s turns (OfClient c) (ms c)
   pub clients : Every (λ t. is_client (turner t) ≡ true) turns

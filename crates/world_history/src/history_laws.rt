@@ -1,12 +1,14 @@
 //! What a history keeps, and what its turns are.
 
-ghost use Rattle.std.specs.Prelude.{◌≡◌, ◌++◌, ℕ, List, Some};
+ghost use Rattle.std.specs.Prelude.{None, ◌≡◌, ◌++◌, ℕ, List, Some};
 ghost use Rattle.posix_calls.specs.Run.{Run, Turn};
 ghost use Rattle.world_invariant.specs.Invariant.{IsCoherent};
 ghost use Rattle.world_invariant.specs.World.{Away};
 ghost use Rattle.world_invariant.specs.log_record.declared.format.Record.{Record};
 ghost use Rattle.world_history.specs.declared.moves.Move.{Move};
 
+ghost use Rattle.world_history.specs.declared.moves.Move.TheVariants.{Rejoined};
+ghost use Rattle.world_history.specs.Conditions.{MayFollow};
 ghost use Rattle.world_history.specs.Configuration.{Configuration, IsConsistent, plain, tree_of, world_of};
 ghost use Rattle.world_history.specs.History.{IsHistory, after_moves, opening_of, turns_in};
 ghost use Rattle.world_history.specs.Participants.{OfClient, moves_of};
@@ -28,8 +30,10 @@ pub fn history_stays_consistent()
 {}
 
 /// While a digest in which a device failed isn't done, its client's region is away: neither is it taken back, nor is its client buried.
+/// So there is none once every region is back.
 pub fn failed_digest_keeps_its_region_away()
-    ensures { (s : Configuration) (x : ℕ × List Record) → IsConsistent s → s.kernel.failed_digest ≡ Some x → (s.clients x.0).other ≡ Away }
+    ensures away { (s : Configuration) (x : ℕ × List Record) → IsConsistent s → s.kernel.failed_digest ≡ Some x → (s.clients x.0).other ≡ Away }
+    ensures rejoined { (s : Configuration) → IsConsistent s → MayFollow s Rejoined → s.kernel.failed_digest ≡ None }
 {}
 
 /// The turns of a client in the run are those of its own list, in their order.

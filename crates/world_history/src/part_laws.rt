@@ -1,8 +1,9 @@
 //! What a part is, by its own moves.
 
-ghost use Rattle.std.specs.Prelude.{◌≡◌, ◌+◌, ℕ, List, true};
+ghost use Rattle.std.specs.Prelude.{◌≡◌, ◌≢◌, ◌+◌, ◌||◌, ℕ, List, true, false};
 ghost use Rattle.posix_calls.specs.Operations.{is_client};
 ghost use Rattle.world_invariant.specs.Invariant.{IsCoherent};
+ghost use Rattle.world_invariant.specs.LeaseSteps.{IsUnheld, IsUnwritten};
 ghost use Rattle.world_history.specs.declared.moves.Move.{Move};
 ghost use Rattle.world_history.specs.Configuration.{Configuration, away_in, world_of};
 ghost use Rattle.world_history.specs.History.{IsHistory, after_moves};
@@ -21,10 +22,12 @@ pub fn away_region_is_its_own_moves()
     ensures { (s : Configuration) (c : ℕ) (h : List Move) → is_client c ≡ true → IsCoherent (world_of s) → IsHistory s h → away_in (after_moves s h) c ≡ away_after c (away_in s c) (moves_of (OfRegion c) h) }
 {}
 
-/// A client's leases are those that it took and did not give since.
+/// A client's leases are those that it took and did not give since. So one may be taken where no other client's list has it.
 pub fn leases_are_those_taken()
     ensures reads { (s : Configuration) (c : ℕ) (h : List Move) → IsHistory s h → ((after_moves s h).clients c).reads ≡ reads_after (s.clients c).reads (moves_of (OfClient c) h) }
     ensures writes { (s : Configuration) (c : ℕ) (h : List Move) → IsHistory s h → ((after_moves s h).clients c).writes ≡ writes_after (s.clients c).writes (moves_of (OfClient c) h) }
+    ensures unwritten { (s : Configuration) (c i : ℕ) (h : List Move) → IsHistory s h → ((d : ℕ) → is_client d ≡ true → d ≢ c → writes_after (s.clients d).writes (moves_of (OfClient d) h) i ≡ false) → IsUnwritten (world_of (after_moves s h)) c i }
+    ensures unheld { (s : Configuration) (c i : ℕ) (h : List Move) → IsHistory s h → ((d : ℕ) → is_client d ≡ true → d ≢ c → (reads_after (s.clients d).reads (moves_of (OfClient d) h) i || writes_after (s.clients d).writes (moves_of (OfClient d) h) i) ≡ false) → IsUnheld (world_of (after_moves s h)) c i }
 {}
 
 /// The kernel lists as many entries of a client as the client and its region that is away list of the kernel.

@@ -11,17 +11,24 @@ ghost use Rattle.world_invariant.specs.log_record.declared.format.Record.{Record
 ghost use Rattle.world_history.specs.declared.moves.Move.{Move};
 ghost use Rattle.world_history.specs.declared.moves.Move.TheVariants.{Accepted, DigestFailed, Digested, Gave, Joined, Met, Reclaimed, TookBack};
 ghost use Rattle.world_history.specs.Conditions.{MayFollow};
-ghost use Rattle.world_history.specs.Configuration.{AwayRegion, Configuration, KernelPart, as_sealed, world_of};
+ghost use Rattle.world_history.specs.Configuration.{AwayRegion, Configuration, IsConsistent, KernelPart, as_sealed, world_of};
 ghost use Rattle.world_history.specs.Locality.{asks_locally, local};
 ghost use Rattle.world_history.specs.Moves.{client_of};
 ghost use Rattle.world_history.specs.Participants.{is_kernels};
 ghost use Rattle.world_history.specs.Parts.{IsAwayBy, client_by, kernel_by};
-ghost use Rattle.world_history.specs.Together.{Every, HasTurnsOf, HaveOneRun, MayBeSaid, PartMoves, Together, client_part, kernel_part, region_part, with_move};
+ghost use Rattle.world_history.specs.Together.{AllTogether, Every, HasTurnsOf, HaveOneRun, HaveWholeRun, MayBeSaid, PartMoves, Together, client_part, configuration_by, kernel_part, region_part, with_move};
 
 /// Parts that list moves of one history have one run of the file tree, in which the turns of each client among them are those of its
 /// list, behind what it saw.
 pub fn parts_together_have_one_run()
     ensures { (s : Configuration) (parts : List PartMoves) → IsCoherent (world_of s) → Together s parts → HaveOneRun s parts }
+{}
+
+/// Where the kernel and all clients do, that run leads from the opening that they list to the tree of what they make by their lists,
+/// and has no other turns; and what they make is consistent.
+pub fn all_parts_together_have_the_whole_run()
+    ensures run { (s : Configuration) (ks : List Move) (ms : ℕ → List Move) → IsCoherent (world_of s) → AllTogether s ks ms → HaveWholeRun s ks ms }
+    ensures consistent { (s : Configuration) (ks : List Move) (ms : ℕ → List Move) → IsConsistent s → AllTogether s ks ms → IsConsistent (configuration_by s ks ms) }
 {}
 
 /// They stay together as a move is said that may follow every history of which they list their moves, and as one of them leaves. What
