@@ -1,5 +1,5 @@
 -- A history keeps a configuration consistent.
-use Rattle.std.proofs.Common.{◌≡◌, ◌≢◌, inl, inr, ℕ, zero, suc, ◌+◌, ◌-◌, ◌≤◌, ◌==◌, cond, Bool, true, false, List, [], ◌∷◌, ◌++◌, length, drop, refl, Some, None, Option, sym, ap, ◌∙◌, subst, arith, true≢false}
+use Rattle.std.proofs.Common.{◌≡◌, ◌≢◌, inl, inr, ℕ, zero, suc, ◌+◌, ◌-◌, ◌≤◌, ◌==◌, Bool, true, false, List, [], ◌∷◌, ◌++◌, length, drop, refl, Some, None, Option, sym, ap, ◌∙◌, subst, arith, true≢false}
 use Rattle.std.specs.Prelude.{◌&&◌, ◌||◌}
 use Rattle.std.proofs.lemmas.Bool.Decides.{eqb_tells}
 use Rattle.std.proofs.lemmas.List.{length-append, length-drop}
@@ -163,13 +163,15 @@ module _ (s : Configuration) (x : ℕ × List Record) (con : IsConsistent s) (e 
   goes_on : (s' : Configuration) → away_in s' x.0 ≡ away_in s x.0 → mark_of s'.kernel x.0 ≡ mark_of s.kernel x.0 → s'.kernel.machine.accepted x.0 ≡ s.kernel.machine.accepted x.0 → CanDigestOf s' x.0 x.1
   goes_on s' away mark accepted =
       let fits = away_is_its_clients (s'.clients x.0) (mark_of s'.kernel x.0) (record { past = (s.clients x.0).past; records = (s.clients x.0).sealed; digested = mark_of s.kernel x.0 - (s.clients x.0).past })
-            (away ∙ ap (λ o. away_by o (s.clients x.0).past (s.clients x.0).sealed (mark_of s.kernel x.0)) is_away) in
-      (can.0, record {
-        client = can.1.client;
-        some = can.1.some;
-        accepted = let low : mark_of s.kernel x.0 + length x.1 ≤ s.kernel.machine.accepted x.0 = can.1.accepted in omega (arith, low, mark, accepted);
-        split = (λ t. drop (mark t - fits.past t) (fits.sealed t)) ∙ can.1.split;
-      })
+      (away ∙ ap (λ o. away_by o (s.clients x.0).past (s.clients x.0).sealed (mark_of s.kernel x.0)) is_away) in (
+        can.0,
+        record {
+          client = can.1.client;
+          some = can.1.some;
+          accepted = let low : mark_of s.kernel x.0 + length x.1 ≤ s.kernel.machine.accepted x.0 = can.1.accepted in omega (arith, low, mark, accepted);
+          split = (λ t. drop (mark t - fits.past t) (fits.sealed t)) ∙ can.1.split;
+        },
+      )
 
 -- ---- a move that is of no region
 

@@ -75,13 +75,13 @@ leases_are s c (m ∷ older) is =
     let then : Configuration = after_moves s older in
     elim (either (takes_part (OfClient c) m)) [
       | inl on ↦ (
-          ap (λ (p : Client). p.reads) (takes_on then c m on) ∙ (λ t i. (lease_moves then c m is.0.0 on i).0 t) ∙ ap (reads_then m) before.0 ∙ sym (ap (reads_after (s.clients c).reads) (projected (takes_part (OfClient c)) m older on)),
-          ap (λ (p : Client). p.writes) (takes_on then c m on) ∙ (λ t i. (lease_moves then c m is.0.0 on i).1 t) ∙ ap (writes_then m) before.1 ∙ sym (ap (writes_after (s.clients c).writes) (projected (takes_part (OfClient c)) m older on))
-        )
+        ap (λ (p : Client). p.reads) (takes_on then c m on) ∙ (λ t i. (lease_moves then c m is.0.0 on i).0 t) ∙ ap (reads_then m) before.0 ∙ sym (ap (reads_after (s.clients c).reads) (projected (takes_part (OfClient c)) m older on)),
+        ap (λ (p : Client). p.writes) (takes_on then c m on) ∙ (λ t i. (lease_moves then c m is.0.0 on i).1 t) ∙ ap (writes_then m) before.1 ∙ sym (ap (writes_after (s.clients c).writes) (projected (takes_part (OfClient c)) m older on)),
+      )
       | inr off ↦ (
-          ap (λ (p : Client). p.reads) (takes_off then c m off) ∙ before.0 ∙ sym (ap (reads_after (s.clients c).reads) (unprojected (takes_part (OfClient c)) m older off)),
-          ap (λ (p : Client). p.writes) (takes_off then c m off) ∙ before.1 ∙ sym (ap (writes_after (s.clients c).writes) (unprojected (takes_part (OfClient c)) m older off))
-        )
+        ap (λ (p : Client). p.reads) (takes_off then c m off) ∙ before.0 ∙ sym (ap (reads_after (s.clients c).reads) (unprojected (takes_part (OfClient c)) m older off)),
+        ap (λ (p : Client). p.writes) (takes_off then c m off) ∙ before.1 ∙ sym (ap (writes_after (s.clients c).writes) (unprojected (takes_part (OfClient c)) m older off)),
+      )
     ]
 
 -- ---- a lease that nobody else holds

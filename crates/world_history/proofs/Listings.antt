@@ -1,11 +1,10 @@
 -- What holds of a configuration holds of each that is the same for all clients; and an opening can list what is finite.
-use Rattle.std.proofs.Common.{◌≡◌, ◌≢◌, ◌⊎◌, inl, inr, ℕ, zero, suc, ◌+◌, ◌-◌, ◌<◌, ◌≤◌, ◌==◌, ◌||◌, cond, Bool, true, false, List, [], ◌∷◌, ◌++◌, length, drop, Option, Some, None, refl, ap, sym, ◌∙◌, subst, arith}
+use Rattle.std.proofs.Common.{◌≡◌, ◌≢◌, ◌⊎◌, inl, inr, ℕ, zero, suc, ◌+◌, ◌-◌, ◌<◌, ◌≤◌, ◌||◌, cond, Bool, true, false, List, [], ◌∷◌, length, drop, Option, Some, None, refl, ap, sym, ◌∙◌, subst, arith}
 use Rattle.std.specs.Prelude.{option_map, slice_get}
 use Rattle.std.proofs.lemmas.Bool.Decides.{eqb_tells}
 use Rattle.posix_calls.specs.Operations.{is_client}
-use Rattle.posix_calls.specs.Tree.{Descriptors}
 use Rattle.posix_calls.specs.declared.limits.TheConstants.{MAX_CLIENTS}
-use Rattle.world_invariant.specs.file_graph.Graph.{Graph, Node, is_among}
+use Rattle.world_invariant.specs.file_graph.Graph.{Graph, is_among}
 use Rattle.world_invariant.specs.log_record.declared.format.Record.{Record}
 use Rattle.world_invariant.specs.call_effects.Wholes.{IsSound, state_of}
 use Rattle.world_invariant.specs.call_effects.Knowledge.{Agrees}
@@ -13,18 +12,18 @@ use Rattle.world_invariant.specs.ClientParts.{IsBeside, IsSoundPart}
 use Rattle.world_invariant.specs.Invariant.{IsCoherent}
 use Rattle.world_invariant.specs.KernelSteps.{IsMigrated}
 use Rattle.world_invariant.specs.Logs.{after_clients, after_records}
-use Rattle.world_invariant.specs.Machine.{IsAcceptedOf, Machine, sealed_of}
-use Rattle.world_invariant.specs.World.{Account, Begun, Client, Kernel, World, held_by, held_descriptors, log_of, undigested_records, whole_graph, world_state}
+use Rattle.world_invariant.specs.Machine.{IsAcceptedOf}
+use Rattle.world_invariant.specs.World.{Account, Begun, Client, Kernel, World, held_descriptors, log_of, undigested_records, whole_graph, world_state}
 use Rattle.world_invariant.proofs.Migrations.{migrated_holds, migrated_tree}
 use Rattle.world_invariant.proofs.Moved.{both_same}
 use Rattle.world_invariant.proofs.Owners.{client_is, is_high, is_low}
 use Rattle.world_invariant.proofs.UnlinkWalks.{eight}
 use Rattle.world_history.specs.declared.begun_call.BegunCall.{BegunCall}
 use Rattle.world_history.specs.declared.moves.Move.TheVariants as moves
-use Rattle.world_history.specs.Configuration.{CanDigestOf, Configuration, IsConsistent, KernelPart, mark_of, tree_of, world_of}
-use Rattle.world_history.specs.Listing.{CanBeListed, CanListAccount, CanListClient, HasSameParts, HoldsAs, IsFinite, IsFiniteSet}
+use Rattle.world_history.specs.Configuration.{CanDigestOf, Configuration, IsConsistent, mark_of, tree_of, world_of}
+use Rattle.world_history.specs.FiniteParts.{CanBeListed, CanListAccount, CanListClient, HasSameParts, HoldsAs, IsFinite, IsFiniteSet}
 use Rattle.world_history.specs.Moves.{after_move}
-use Rattle.world_history.specs.Opening.{Opening, OpeningAccount, OpeningClient, accepted_if, account_if, begun_of, client_if, found, found_block, listed_client, opening_client}
+use Rattle.world_history.specs.Opening.{Opening, OpeningAccount, OpeningClient, accepted_if, account_if, begun_of, client_if, found, listed_client}
 
 -- ---- the same for all clients
 
@@ -84,13 +83,15 @@ module _ (s t : Configuration) (same : HasSameParts s t) where
   digest_too x can =
       let is = can.1.client in
       let mark : mark_of t.kernel x.0 ≡ mark_of s.kernel x.0 = ap (λ (a : Account). a.mark) (same.accounts x.0 is) in
-      let client = same.clients x.0 is in
-      (can.0, record {
-        client = is;
-        some = can.1.some;
-        accepted = let low : mark_of s.kernel x.0 + length x.1 ≤ s.kernel.machine.accepted x.0 = can.1.accepted in let all : t.kernel.machine.accepted x.0 ≡ s.kernel.machine.accepted x.0 = same.accepted x.0 is in omega (arith, low, all, mark);
-        split = (λ i. drop (mark i - (client i).past) (client i).sealed) ∙ can.1.split;
-      })
+      let client = same.clients x.0 is in (
+        can.0,
+        record {
+          client = is;
+          some = can.1.some;
+          accepted = let low : mark_of s.kernel x.0 + length x.1 ≤ s.kernel.machine.accepted x.0 = can.1.accepted in let all : t.kernel.machine.accepted x.0 ≡ s.kernel.machine.accepted x.0 = same.accepted x.0 is in omega (arith, low, all, mark);
+          split = (λ i. drop (mark i - (client i).past) (client i).sealed) ∙ can.1.split;
+        },
+      )
 
   pub same_consistent : IsConsistent s → IsConsistent t
   same_consistent con = record {

@@ -1,5 +1,5 @@
 -- What parts may say, by their own lists.
-use Rattle.std.proofs.Common.{◌≡◌, inl, inr, ℕ, ◌+◌, ◌++◌, Bool, true, false, List, [], ◌∷◌, length, map, refl, Some, None, sym, ap, ◌∙◌, subst, true≢false}
+use Rattle.std.proofs.Common.{◌≡◌, ℕ, ◌+◌, ◌++◌, true, false, List, [], ◌∷◌, length, map, refl, Some, None, sym, ap, ◌∙◌, subst, true≢false}
 use Rattle.posix_calls.specs.Operations.{is_client}
 use Rattle.posix_calls.specs.Run.{Turn}
 use Rattle.world_invariant.specs.Invariant.{IsCoherent}
@@ -10,12 +10,12 @@ use Rattle.world_invariant.specs.World.{Client}
 use Rattle.world_invariant.specs.log_record.declared.format.Record.{Record}
 use Rattle.world_history.specs.declared.moves.Move.{Move}
 use Rattle.world_history.specs.declared.moves.Move.TheVariants as moves
-use Rattle.world_history.specs.Conditions.{IsGoing, MayFollow}
+use Rattle.world_history.specs.Conditions.{MayFollow}
 use Rattle.world_history.specs.Configuration.{AwayRegion, Configuration, KernelPart, as_sealed, away_in, world_of}
 use Rattle.world_history.specs.History.{IsHistory, SeesAll, after_moves, turns_in}
 use Rattle.world_history.specs.Locality.{asks_locally, local}
 use Rattle.world_history.specs.Moves.{client_of}
-use Rattle.world_history.specs.Participants.{OfClient, OfKernel, OfRegion, Participant, is_kernels, projection, takes_part}
+use Rattle.world_history.specs.Participants.{OfClient, OfKernel, OfRegion, Participant, is_kernels}
 use Rattle.world_history.specs.Parts.{away_after, client_after, kernel_after}
 use Rattle.world_history.specs.Together.{Every, HasTurnsOf, Has, Lists, MayBeSaid, PartMoves, Together, with_move}
 use Rattle.world_history.proofs.AwayRegions.{away_is}
@@ -73,15 +73,15 @@ module _ (s : Configuration) (c : ℕ) (ms : List Move) where
   pub client_says : (k : KernelPart) (m : Move) → asks_locally m ≡ true → is_kernels m ≡ false → client_of m ≡ c → MayFollow (local k (client_after c (s.clients c) ms)) m → MayBeSaid s (part (OfClient c) ms ∷ []) m
   client_says k m on off own may h is listed = (
     is_local m on (after_moves s h) k (λ kernels. absurd (true≢false (sym kernels ∙ off)))
-      (subst (λ (p : Client). MayFollow (local k p) m) (sym (client_then h listed.0) ∙ ap (after_moves s h).clients (sym own)) may),
-    sees_nothing s h m on
+        (subst (λ (p : Client). MayFollow (local k p) m) (sym (client_then h listed.0) ∙ ap (after_moves s h).clients (sym own)) may),
+    sees_nothing s h m on,
   )
 
   pub client_and_kernel_say : (ks : List Move) (m : Move) → asks_locally m ≡ true → client_of m ≡ c → MayFollow (local (kernel_after s.kernel ks) (client_after c (s.clients c) ms)) m → MayBeSaid s (part (OfClient c) ms ∷ part OfKernel ks ∷ []) m
   client_and_kernel_say ks m on own may h is listed = (
     is_local m on (after_moves s h) (kernel_after s.kernel ks) (λ kernels. sym (kernel_is s h ∙ ap (kernel_after s.kernel) listed.1.0))
-      (subst (λ (p : Client). MayFollow (local (kernel_after s.kernel ks) p) m) (sym (client_then h listed.0) ∙ ap (after_moves s h).clients (sym own)) may),
-    sees_nothing s h m on
+        (subst (λ (p : Client). MayFollow (local (kernel_after s.kernel ks) p) m) (sym (client_then h listed.0) ∙ ap (after_moves s h).clients (sym own)) may),
+    sees_nothing s h m on,
   )
 
   pub client_gives : (i : ℕ) → is_client c ≡ true → (client_after c (s.clients c) ms).begun ≡ None → is_written i ((client_after c (s.clients c) ms).sealed ++ (client_after c (s.clients c) ms).current) ≡ false → MayBeSaid s (part (OfClient c) ms ∷ []) (moves.Gave c i)
@@ -134,5 +134,5 @@ pub parts_meet : (s : Configuration) (parts : List PartMoves) (clients : List �
 parts_meet s parts clients t = (
   turns_in s t.history,
   record { history = moves.Met clients (turns_in s t.history) ∷ t.history; legal = ((tt, refl), t.legal); listed = listed_too (moves.Met clients (turns_in s t.history)) t.history parts t.listed },
-  every (Lists t.history) (HasTurnsOf s (turns_in s t.history)) (λ p listed. subst (Has s (turns_in s t.history) p.participant) listed (has_turns s t.history t.legal p.participant)) parts t.listed
+  every (Lists t.history) (HasTurnsOf s (turns_in s t.history)) (λ p listed. subst (Has s (turns_in s t.history) p.participant) listed (has_turns s t.history t.legal p.participant)) parts t.listed,
 )

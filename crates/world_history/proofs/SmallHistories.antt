@@ -1,11 +1,10 @@
 -- Each move of the small history may follow.
-use Rattle.std.proofs.Common.{◌≡◌, ◌≢◌, inl, inr, ℕ, ◌+◌, ◌-◌, ◌==◌, ◌||◌, cond, Bool, true, false, List, [], ◌∷◌, refl, Some, None, Option, Ok, ap, sym, ◌∙◌, subst, arith}
+use Rattle.std.proofs.Common.{◌≡◌, inl, inr, ℕ, ◌+◌, ◌-◌, ◌==◌, ◌||◌, cond, true, false, List, [], ◌∷◌, refl, Some, None, Option, Ok, ap, sym, ◌∙◌, subst, arith}
 use Rattle.std.specs.Prelude.{min}
 use Rattle.std.proofs.lemmas.Bool.Decides.{eqb_tells}
 use Rattle.posix_calls.specs.Units.{directory_units}
 use Rattle.posix_calls.specs.Tree.{sum_up_to}
 use Rattle.posix_calls.specs.EmptyTree.{empty_state}
-use Rattle.posix_calls.specs.Operations.{is_client}
 use Rattle.posix_calls.specs.Part.{Known, run_part}
 use Rattle.posix_calls.specs.Run.{Run}
 use Rattle.posix_calls.proofs.Chain.{part_bind, part_gives, part_refuses}
@@ -17,19 +16,18 @@ use Rattle.world_invariant.specs.call_effects.NodeView.{view_at}
 use Rattle.world_invariant.specs.call_effects.Records.{units_asked}
 use Rattle.world_invariant.specs.BookSteps.{HasRoom, IsUnbooked}
 use Rattle.world_invariant.specs.ClientSteps.{CanBegin}
-use Rattle.world_invariant.specs.Invariant.{IsCoherent}
 use Rattle.world_invariant.specs.LeaseSteps.{IsUnheld}
 use Rattle.world_invariant.specs.Walk as walk
-use Rattle.world_invariant.specs.World.{Client, at, has_lease}
+use Rattle.world_invariant.specs.World.{Client, has_lease}
 use Rattle.world_invariant.proofs.call_effects_lemmas.Fresh.{fresh_sound, fresh_state}
 use Rattle.world_invariant.proofs.Fresh.{fresh_within}
 use Rattle.world_invariant.proofs.Idle.{idle_holds, idle_tree, none_some}
 use Rattle.world_invariant.proofs.Walks.{held_both, none_seen, part_is_dir, part_look, planned}
 use Rattle.world_history.specs.declared.moves.Move.{Move}
 use Rattle.world_history.specs.declared.moves.Move.TheVariants as moves
-use Rattle.world_history.specs.Conditions.{CanGrant, HoldsNothing}
+use Rattle.world_history.specs.Conditions.{HoldsNothing}
 use Rattle.world_history.specs.Configuration.{Configuration, IsConsistent, tree_of, world_of}
-use Rattle.world_history.specs.History.{IsHistory, after_moves, opening_of, turns_in}
+use Rattle.world_history.specs.History.{IsHistory, after_moves}
 use Rattle.world_history.specs.Opening.{begun_of}
 use Rattle.world_history.specs.SmallHistory.{begun_moves, kept_moves, mkdir_a, small_history, small_start, small_turns}
 use Rattle.world_history.proofs.Keeping.{history_keeps}
@@ -90,26 +88,48 @@ can_begin = record {
 }
 
 begun_is : IsHistory small_start begun_moves
-begun_is =
-    ((can_begin, tt),
-    (((record { client = refl; leased = refl; missing = inl refl }, refl), tt),
-    (((refl, new_unheld), tt),
-    (((refl, root_unheld), tt),
-    ((record { client = refl; room = room; unbooked = unbooked; once = (refl, tt) }, tt),
-    tt)))))
+begun_is = (
+  (can_begin, tt),
+  (
+    ((record { client = refl; leased = refl; missing = inl refl }, refl), tt),
+    (
+      ((refl, new_unheld), tt),
+      (
+        ((refl, root_unheld), tt),
+        (
+          (record { client = refl; room = room; unbooked = unbooked; once = (refl, tt) }, tt),
+          tt,
+        ),
+      ),
+    ),
+  ),
+)
 
 -- ---- its client's death
 
 kept_is : IsHistory small_start kept_moves
-kept_is =
-    ((record { client = refl; away = refl; digested = refl }, tt),
-    (((refl, ([], record { client = refl; some = λ e. absurd (cc); accepted = omega arith; split = refl })), tt),
-    (((record { client = refl; some = λ e. absurd (cc); before = refl; first = refl }, refl), tt),
-    (((record { client = refl; idle = refl; some = λ e. absurd (cc); back = λ e. absurd (cc) }, refl, refl), tt),
-    ((record { client = refl; dead = refl; idle = refl }, tt),
-    (((begun_of mkdir_a, record { client = refl; there = refl; known = λ e. absurd (cc) }), tt),
-    ((record { client = refl; alive = refl }, tt),
-    begun_is)))))))
+kept_is = (
+  (record { client = refl; away = refl; digested = refl }, tt),
+  (
+    ((refl, ([], record { client = refl; some = λ e. absurd (cc); accepted = omega arith; split = refl })), tt),
+    (
+      ((record { client = refl; some = λ e. absurd (cc); before = refl; first = refl }, refl), tt),
+      (
+        ((record { client = refl; idle = refl; some = λ e. absurd (cc); back = λ e. absurd (cc) }, refl, refl), tt),
+        (
+          (record { client = refl; dead = refl; idle = refl }, tt),
+          (
+            ((begun_of mkdir_a, record { client = refl; there = refl; known = λ e. absurd (cc) }), tt),
+            (
+              (record { client = refl; alive = refl }, tt),
+              begun_is,
+            ),
+          ),
+        ),
+      ),
+    ),
+  ),
+)
 
 holds_nothing : HoldsNothing ((after (moves.Gave 1 2 ∷ moves.Gave 1 1 ∷ kept_moves)).clients 1)
 holds_nothing = record {
@@ -118,14 +138,25 @@ holds_nothing = record {
 }
 
 pub small_is : IsHistory small_start small_history
-small_is =
-    ((tt, refl),
-    (((record { client = refl; buried = refl; digested = refl; other = refl; ready = refl }, record { reads = λ i. refl; writes = λ i. refl }, refl), tt),
-    ((record { client = refl; back = refl }, tt),
-    (((record { client = refl; settled = refl; digested = refl; back = λ e. absurd (cc) }, holds_nothing, refl), tt),
-    ((record { client = refl; idle = refl; clean = refl }, tt),
-    ((record { client = refl; idle = refl; clean = refl }, tt),
-    kept_is))))))
+small_is = (
+  (tt, refl),
+  (
+    ((record { client = refl; buried = refl; digested = refl; other = refl; ready = refl }, record { reads = λ i. refl; writes = λ i. refl }, refl), tt),
+    (
+      (record { client = refl; back = refl }, tt),
+      (
+        ((record { client = refl; settled = refl; digested = refl; back = λ e. absurd (cc) }, holds_nothing, refl), tt),
+        (
+          (record { client = refl; idle = refl; clean = refl }, tt),
+          (
+            (record { client = refl; idle = refl; clean = refl }, tt),
+            kept_is,
+          ),
+        ),
+      ),
+    ),
+  ),
+)
 
 pub small_run : Run empty_state small_turns (tree_of (after_moves small_start small_history))
 small_run = subst (λ first. Run first small_turns (tree_of (after_moves small_start small_history))) (idle_tree (charge fresh + 10) fresh ∙ fresh_state) (history_keeps small_start small_history start_holds.coherent small_is).run

@@ -1,7 +1,6 @@
 -- Parts that list moves of one history have one run, and may list one move more.
-use Rattle.std.proofs.Common.{◌≡◌, inl, inr, ℕ, cond, Bool, true, false, List, [], ◌∷◌, map, refl, sym, ap, ◌∙◌, subst, true≢false}
+use Rattle.std.proofs.Common.{◌≡◌, inl, inr, cond, Bool, true, false, List, [], ◌∷◌, map, refl, sym, ap, ◌∙◌, subst, true≢false}
 use Rattle.posix_calls.specs.Tree.{State}
-use Rattle.posix_calls.specs.Run.{Turn}
 use Rattle.world_invariant.specs.Invariant.{IsCoherent}
 use Rattle.world_invariant.proofs.Records.{either}
 use Rattle.world_history.specs.declared.moves.Move.{Move}

@@ -1,15 +1,12 @@
 -- What all parts make together.
-use Rattle.std.proofs.Common.{◌≡◌, ℕ, List, true, refl, ap, sym, ◌∙◌, subst}
-use Rattle.posix_calls.specs.Operations.{is_client}
+use Rattle.std.proofs.Common.{◌≡◌, ℕ, List, ap, sym, ◌∙◌, subst}
 use Rattle.posix_calls.specs.Run.{Run}
 use Rattle.posix_calls.specs.Tree.{State}
 use Rattle.world_invariant.specs.Invariant.{IsCoherent}
-use Rattle.world_invariant.specs.Machine.{Machine}
-use Rattle.world_invariant.specs.World.{Account}
 use Rattle.world_history.specs.declared.moves.Move.{Move}
 use Rattle.world_history.specs.Configuration.{Configuration, IsConsistent, KernelPart, tree_of, world_of}
-use Rattle.world_history.specs.History.{IsHistory, after_moves, opening_of, turns_in}
-use Rattle.world_history.specs.Listing.{HasSameParts}
+use Rattle.world_history.specs.History.{after_moves, opening_of, turns_in}
+use Rattle.world_history.specs.FiniteParts.{HasSameParts}
 use Rattle.world_history.specs.Participants.{OfClient, OfKernel, takes_part}
 use Rattle.world_history.specs.Parts.{client_after, kernel_after}
 use Rattle.world_history.specs.Together.{AllTogether, Has, HaveWholeRun, configuration_by}

@@ -1,5 +1,5 @@
 -- A small history: a client begins `mkdir /a` and dies, its record is found and digested, it is buried, and a new client takes its seat and meets another one.
-use Rattle.std.specs.Prelude.{ℕ, List, [], ◌∷◌, None}
+use Rattle.std.specs.Prelude.{List, [], ◌∷◌, None}
 use Rattle.posix_calls.specs.Run.{Turn, Asked, Departs}
 use Rattle.posix_calls.specs.declared.call.Reply.TheVariants.{Done}
 use Rattle.world_invariant.specs.file_graph.Graph.{fresh}

@@ -6,7 +6,6 @@ ghost use Rattle.world_invariant.specs.Invariant.{IsCoherent};
 ghost use Rattle.world_invariant.specs.World.{Away};
 ghost use Rattle.world_invariant.specs.log_record.declared.format.Record.{Record};
 ghost use Rattle.world_history.specs.declared.moves.Move.{Move};
-
 ghost use Rattle.world_history.specs.declared.moves.Move.TheVariants.{Rejoined};
 ghost use Rattle.world_history.specs.Conditions.{MayFollow};
 ghost use Rattle.world_history.specs.Configuration.{Configuration, IsConsistent, plain, tree_of, world_of};

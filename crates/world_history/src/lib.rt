@@ -31,7 +31,7 @@ pub use part_laws::{
     parts_are_their_own_moves,
 };
 pub use together_laws::{
-    all_parts_together_have_the_whole_run, client_and_kernel_may_say, clients_may_meet, parts_together_have_one_run,
-    region_and_kernel_may_say, said_move_keeps_parts_together,
+    all_parts_together_have_the_whole_run, client_and_kernel_may_say, clients_may_meet,
+    parts_together_have_one_run, region_and_kernel_may_say, said_move_keeps_parts_together,
 };
 pub use walk_laws::small_history_of_a_death;

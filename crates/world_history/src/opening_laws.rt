@@ -4,7 +4,7 @@ ghost use Rattle.std.specs.Prelude.{◌≡◌, ℕ, true};
 ghost use Rattle.posix_calls.specs.Operations.{is_client};
 ghost use Rattle.world_history.specs.declared.moves.Move.TheVariants.{Shared};
 ghost use Rattle.world_history.specs.Configuration.{Configuration, IsConsistent, tree_of};
-ghost use Rattle.world_history.specs.Listing.{CanBeListed, HasSameParts, HoldsAs};
+ghost use Rattle.world_history.specs.FiniteParts.{CanBeListed, HasSameParts, HoldsAs};
 ghost use Rattle.world_history.specs.Moves.{after_move};
 ghost use Rattle.world_history.specs.Opening.{Opening};
 
