@@ -28,6 +28,6 @@ asks_locally (moves.Shared o) = false
 asks_locally moves.Rejoined = false
 asks_locally _ = true
 
--- where its client and the kernel, if that takes part, say by themselves that it may follow, it may, whatever all others are
+-- if its client, and the kernel where that takes part, say by themselves that it may follow, it may, whatever all others are
 abbrev pub IsLocal : Move → Type 0
 IsLocal m = (s : Configuration) (k : KernelPart) → (is_kernels m ≡ true → k ≡ s.kernel) → MayFollow (local k (s.clients (client_of m))) m → MayFollow s m

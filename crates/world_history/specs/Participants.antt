@@ -22,7 +22,7 @@ is_kernels (moves.Shared o) = true
 is_kernels moves.Rejoined = true
 is_kernels _ = false
 
--- whether its client does: all but where the kernel has a region of it alone, or a file; those that are of several clients are told below
+-- whether its client does: all but where the kernel has a region of it alone, or a file; those of several clients are in `has_met` and `restarts`
 abbrev pub is_clients : Move → Bool
 is_clients (moves.Accepted c total) = false
 is_clients (moves.Digested c records) = false
@@ -33,7 +33,7 @@ is_clients (moves.Shared o) = false
 is_clients moves.Rejoined = false
 is_clients _ = true
 
--- whether its client's region does that is away
+-- whether the region of its client that is away does
 abbrev pub is_regions : Move → Bool
 is_regions (moves.Sealed c past records) = true
 is_regions (moves.TookBack c) = true

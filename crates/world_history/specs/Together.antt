@@ -73,7 +73,7 @@ Has s turns (OfClient c) moves = (turns_by c turns ≡ turns_of c (s.clients c) 
 abbrev pub HasTurnsOf : Configuration → List Turn → PartMoves → Type 0
 HasTurnsOf s turns p = Has s turns p.participant p.moves
 
--- One run of the file tree, from the opening that each part lists, has the turns of each client among the parts. All its turns are of clients: so where
+-- One run of the file tree, from the opening that each part lists, has the turns of each client among the parts. All its turns are of clients: so if
 -- all clients are among the parts, no other turn stands in it.
 pub record HaveOneRun (s : Configuration) (parts : List PartMoves) : Type 0 where
   pub first : State

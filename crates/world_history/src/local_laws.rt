@@ -13,16 +13,16 @@ ghost use Rattle.world_history.specs.Configuration.{AwayRegion, Configuration, K
 ghost use Rattle.world_history.specs.Locality.{IsLocal, asks_locally, local};
 ghost use Rattle.world_history.specs.Parts.{IsAwayIn};
 
-/// A move that asks nothing of others' leases, of a region that is away, of a mark or of the turns so far may follow where its client,
-/// and the kernel where that takes part, say so by themselves. A lease may be given where the client's own records, digested or not,
-/// don't touch its inode; and a new client may join by what the client alone says.
+/// A move that asks nothing of others' leases, of a region that is away, of a mark or of the turns so far may follow if its client, and
+/// the kernel if that takes part, say so by themselves. A lease may be given if the client's own records, digested or not, don't touch
+/// its inode; and a new client may join by what its seat alone says.
 pub fn move_asks_its_client_and_the_kernel()
     ensures local { (m : Move) → asks_locally m ≡ true → IsLocal m }
     ensures gave { (s : Configuration) (c i : ℕ) → is_client c ≡ true → (s.clients c).begun ≡ None → is_written i ((s.clients c).sealed ++ (s.clients c).current) ≡ false → MayFollow s (Gave c i) }
     ensures joined { (s : Configuration) (k : KernelPart) (c mark : ℕ) → IsCoherent (world_of s) → MayFollow (local k (s.clients c)) (Joined c mark) → MayFollow s (Joined c mark) }
 {}
 
-/// A region that is away is taken back where its own part says that all its records are digested; and accepted and digested by what it
+/// A region that is away is taken back if its own part says that all its records are digested. It is accepted and digested by what it
 /// and the kernel say.
 pub fn move_asks_its_region_and_the_kernel()
     ensures took_back { (s : Configuration) (c : ℕ) (a : AwayRegion) → IsAwayIn s c a → a.digested ≡ length a.records → MayFollow s (TookBack c) }

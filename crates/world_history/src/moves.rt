@@ -35,7 +35,7 @@ impl Model for SeenTurn {
     ghost view = { λ _. Departs 0 };
 }
 
-/// What a kernel and its clients do, one move after another. Where a move names a client, that is its first number.
+/// What a kernel and its clients do, one move after another. The client of a move, if it has one, is its first number.
 pub enum Move {
     /// A lease of an inode was taken for reading.
     TookRead(u64, u64),

@@ -15,8 +15,8 @@ pub fn clients_alone_count()
     ensures tree { (s t : Configuration) → HasSameParts s t → tree_of t ≡ tree_of s }
 {}
 
-/// An opening can list each configuration in which nothing stands past some number, but for its leases: where all begin anew with it,
-/// and hold what they held there, there is that configuration.
+/// An opening can list each configuration in which nothing stands past some number, but for its leases: if all begin anew with it and
+/// hold what they held there, that configuration is there again.
 pub fn configuration_can_be_listed()
     ensures { (s : Configuration) → CanBeListed s → (o : Opening) × ((t : Configuration) → ((c : ℕ) → is_client c ≡ true → HoldsAs (t.clients c) (s.clients c)) → HasSameParts s (after_move t (Shared o))) }
 {}

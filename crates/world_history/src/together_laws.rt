@@ -24,8 +24,8 @@ pub fn parts_together_have_one_run()
     ensures { (s : Configuration) (parts : List PartMoves) → IsCoherent (world_of s) → Together s parts → HaveOneRun s parts }
 {}
 
-/// Where the kernel and all clients do, that run leads from the opening that they list to the tree of what they make by their lists,
-/// and has no other turns; and what they make is consistent.
+/// If the kernel and all clients do, that run leads from the opening that they list to the tree of what they make by their lists, and has
+/// no other turns; and what they make is consistent.
 pub fn all_parts_together_have_the_whole_run()
     ensures run { (s : Configuration) (ks : List Move) (ms : ℕ → List Move) → IsCoherent (world_of s) → AllTogether s ks ms → HaveWholeRun s ks ms }
     ensures consistent { (s : Configuration) (ks : List Move) (ms : ℕ → List Move) → IsConsistent s → AllTogether s ks ms → IsConsistent (configuration_by s ks ms) }
@@ -39,9 +39,8 @@ pub fn said_move_keeps_parts_together()
     ensures more { (s : Configuration) (p : PartMoves) (parts : List PartMoves) (m : Move) → MayBeSaid s parts m → MayBeSaid s (p ∷ parts) m }
 {}
 
-/// A client, and the kernel beside it where that takes part, may say what may follow by what their own lists make of them. A client may
-/// give a lease where no record of its list touches the inode, and join by its list alone; and the kernel may reclaim a file by its
-/// own.
+/// A client, with the kernel if that takes part, may say what may follow by what their own lists make of them. A client may give a lease
+/// if no record of its list touches the inode, and join by its list alone; and the kernel may reclaim a file by its own.
 pub fn client_and_kernel_may_say()
     ensures client { (s : Configuration) (c : ℕ) (ms : List Move) (k : KernelPart) (m : Move) → asks_locally m ≡ true → is_kernels m ≡ false → client_of m ≡ c → MayFollow (local k (client_by s c ms)) m → MayBeSaid s (client_part c ms ∷ []) m }
     ensures both { (s : Configuration) (c : ℕ) (ms ks : List Move) (m : Move) → asks_locally m ≡ true → client_of m ≡ c → MayFollow (local (kernel_by s ks) (client_by s c ms)) m → MayBeSaid s (client_part c ms ∷ kernel_part ks ∷ []) m }
