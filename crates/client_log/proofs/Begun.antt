@@ -1,26 +1,43 @@
 -- The region that is written, while a record is begun in it.
-use Rattle.std.proofs.Common.{◌≡◌, ◌≢◌, ◌<◌, ◌+◌, inl, inr, ℕ, Bool, true, false, List, take, sym, ◌∙◌, ap, subst}
-use Rattle.std.specs.Prelude.{Ok, Err, Option, Some, is_some, length}
-use Rattle.std.proofs.lemmas.Bool.{cases_Bool, true≢false}
+use Rattle.std.proofs.Common.{◌≡◌, ◌≢◌, ◌<◌, ◌+◌, inl, inr, ℕ, Bool, true, false, cond, List, [], ◌∷◌, ◌++◌, take, refl, sym, ◌∙◌, ap, subst}
+use Rattle.std.specs.Prelude.{Ok, Err, IfSome, Option, Some, None, is_some, length}
+use Rattle.std.proofs.lemmas.Bool.{cases_Bool, cond-true, true≢false}
 use Rattle.tier_device.specs.declared.media.Media.{Ghosts}
 use Rattle.tier_device.specs.declared.media.Tier.{Tier}
 use Rattle.tier_device.specs.declared.media.Tier.TheVariants.{Fast}
 use Rattle.update_log.specs.log_record.declared.format.Record.{Record}
 use Rattle.update_log.specs.log_record.Grammar.{record_bytes}
 use Rattle.update_log.specs.Frames.{before_gate, end_behind, header, spelled_records, with_record}
-use Rattle.update_log.specs.Stage.{IsAppending}
+use Rattle.update_log.specs.Stage.{IsAppending, IsIdle, next, progress}
+use Rattle.update_log.specs.declared.stage.Progress.TheVariants.{Appended}
+use Rattle.update_log.specs.declared.stage.Stage.{Stage}
 use Rattle.update_log.specs.declared.format.TheConstants.{REGION_SIZE}
 use Rattle.update_log.specs.View.{RegionView, header_of, records_of}
 use Rattle.update_log.specs.Wipe.{IsWiping}
 use Rattle.update_log.specs.WipeStops.{generation}
 use Rattle.update_log.specs.declared.stage.Stage.TheVariants as stages
 use Rattle.client_log.specs.Regions.{IsWritten, is_pending}
+use Rattle.client_log.specs.Turns.{Turn, place_of, record_appended, turn_of}
 use Rattle.client_log.specs.View.{LogView}
-use Rattle.client_log.proofs.Sound.{IsSoundLog}
+use Rattle.client_log.proofs.Sound.{IsSoundLog, if_some}
 use Rattle.client_log.proofs.Within.{one_more_within, within_same}
 
 pub not_refused : {A E : Type 0} (x : A) (e : E) → Ok x ≡ Err e → ⊥
 not_refused x e is = cc
+
+-- a device call that ends an append leaves the region at rest
+last_rests : (s : Stage) → progress s ≡ Appended → next s ≡ stages.Resting
+last_rests stages.Opened is = refl
+last_rests stages.Resting is = refl
+last_rests stages.Foreign is = absurd (cc)
+last_rests stages.Begun is = absurd (cc)
+last_rests stages.Written is = absurd (cc)
+last_rests stages.Kept is = absurd (cc)
+last_rests stages.Failed is = absurd (cc)
+last_rests stages.Closing is = absurd (cc)
+last_rests stages.Closed is = absurd (cc)
+last_rests stages.Naming is = absurd (cc)
+last_rests stages.WipeFailed is = absurd (cc)
 
 module _ {M : Type 0} (device : Ghosts M) where
   -- a record is begun only in a region that is wiped to its generation
@@ -59,3 +76,25 @@ module _ {M : Type 0} (device : Ghosts M) where
             subst (λ (b : Option Record). end_behind (with_record (records_of device new) b) < REGION_SIZE) (sym is)
             (subst (λ (l : List Record). end_behind (with_record l (Some r)) < REGION_SIZE) (sym same) (one_more_within (records_of device old) r fits));
       }
+
+  -- the last device call of an append: the begun record is one of those of the turn then, and nothing is begun
+  pub append_ends : (v : LogView M) (new : RegionView M) → IsSoundLog device v → progress v.current.stage ≡ Appended → new.stage ≡ next v.current.stage
+      → (new.stage ≡ stages.Resting → records_of device new ≡ with_record (records_of device v.current) v.current.begun) → (IsIdle new.stage → new.begun ≡ None)
+      → IfSome v.current.begun (λ r. turn_of device (record v { current = new }) ≡ record_appended (turn_of device v) r)
+  append_ends v new s last stage gives none = if_some v.current.begun (λ r. turn_of device (record v { current = new }) ≡ record_appended (turn_of device v) r) appended
+    where
+      rests : new.stage ≡ stages.Resting
+      rests = stage ∙ last_rests v.current.stage last
+
+      turn : List Record → Option Record → Turn
+      turn rs o = record { current = rs; other = place_of v.other v.clean; ready = v.ready; begun = o }
+
+      appended : (r : Record) → v.current.begun ≡ Some r → turn_of device (record v { current = new }) ≡ record_appended (turn_of device v) r
+      appended r is =
+          let ready : v.ready ≡ true = begun_ready v s (ap is_some is) in
+          let before = records_of device v.current in
+          let one : records_of device new ≡ before ++ r ∷ [] = gives rests ∙ ap (with_record before) is in
+          let all : cond v.ready (records_of device new) [] ≡ cond v.ready before [] ++ r ∷ [] =
+          cond-true v.ready (records_of device new) [] ready ∙ one ∙ ap (λ (rs : List Record). rs ++ r ∷ []) (sym (cond-true v.ready before [] ready)) in
+          let idle : new.begun ≡ None = none (inl rests) in
+          ap (λ (rs : List Record). turn rs new.begun) all ∙ ap (λ (o : Option Record). turn (cond v.ready before [] ++ r ∷ []) o) idle

@@ -25,5 +25,5 @@ pub use turn_laws::{
 
 /// Of `update_log`, what the crates above name.
 pub mod in_update_log {
-    pub use update_log::{Progress, REGION_SIZE, Region, RegionError, WipeProgress};
+    pub use update_log::{Progress, REGION_SIZE, Region, WipeProgress};
 }

@@ -5,6 +5,7 @@ use Rattle.std.proofs.lemmas.Bool.{cases_Bool, and_parts, cond-true, cond-false}
 use Rattle.std.proofs.lemmas.Bool.Decides.{nat_tests}
 use Rattle.std.proofs.lemmas.List.{length-take, length-drop}
 use Rattle.posix_calls.specs.Tree.{Descriptors}
+use Rattle.posix_calls.specs.declared.limits.TheConstants.{UNIT_BYTES}
 use Rattle.client_plan.specs.file_graph.Graph.{Graph, Node, FileBody, DirBody, file_bytes}
 use Rattle.client_plan.specs.file_graph.Numbers.{in_run}
 use Rattle.client_plan.specs.log_record.declared.format.Record.{Record}
@@ -43,11 +44,11 @@ module _ (k : Knowledge) (g whole : Graph) (held : Descriptors) (rs : List Recor
       | inr gone ↦ absurd (let clash : None ≡ Some bytes = sym (ap file_bytes gone.nothing) ∙ file in cc)
     ]
 
-    pub block_long : (names size : ℕ) → k.copies i ≡ Some (Some (FileView names size)) → length block ≡ min 4096 (size - 4096 * b)
+    pub block_long : (names size : ℕ) → k.copies i ≡ Some (Some (FileView names size)) → length block ≡ min UNIT_BYTES (size - UNIT_BYTES * b)
     block_long names size copy =
         let seen : option_map view_of_node (whole i) ≡ Some (FileView names size) = ap (option_map view_of_node) (sym stands_back) ∙ agrees.copies i (Some (FileView names size)) copy in
         let many : length bytes ≡ size = size_is (whole i) bytes names size file seen in
-        ap length block_there ∙ length-take 4096 (drop (4096 * b) bytes) ∙ ap (min 4096) (length-drop (4096 * b) bytes ∙ ap (λ n. n - 4096 * b) many)
+        ap length block_there ∙ length-take UNIT_BYTES (drop (UNIT_BYTES * b) bytes) ∙ ap (min UNIT_BYTES) (length-drop (UNIT_BYTES * b) bytes ∙ ap (λ n. n - UNIT_BYTES * b) many)
 
     only_one : (n : ℕ) → in_run b 1 n ≡ true → n ≡ b
     only_one n is = let parts = and_parts (nat_le b n) (nat_lt n (b + 1)) is in grind (arith, nat_tests, parts.0, parts.1)

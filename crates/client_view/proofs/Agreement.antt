@@ -1,20 +1,26 @@
 -- What a client knows after a record of its own agrees with the whole again.
-use Rattle.std.proofs.Common.{◌≡◌, inl, inr, ℕ, Bool, true, false, cond, List, Option, Some, None, refl, ap, sym, ◌∙◌, subst}
+use Rattle.std.proofs.Common.{◌≡◌, inl, inr, ℕ, Bool, true, false, cond, List, [], Option, Some, None, refl, ap, sym, ◌∙◌, subst}
 use Rattle.std.specs.Prelude.{◌==◌, ◌&&◌, not, option_map}
 use Rattle.std.proofs.lemmas.Bool.{cases_eq, eq-eqb, ne_eqb, and_parts, and_from, cond-true, cond-false}
 use Rattle.posix_calls.specs.Tree.{Own, Descriptors, with_own}
+use Rattle.posix_calls.specs.Query.{Gives}
 use Rattle.posix_calls.specs.Operations.{makes, own_after}
 use Rattle.posix_calls.specs.declared.call.Call.{Call}
 use Rattle.posix_calls.specs.declared.call.Reply.{Reply}
 use Rattle.posix_calls.specs.declared.operation.Operation.{Operation}
-use Rattle.posix_calls.specs.declared.operation.Operation.TheVariants.{Tell, NewDir, NewFile, OpenFile, CloseFile, Write, Resize, RemoveDir, AddName, DropName, Move}
-use Rattle.client_plan.specs.file_graph.Graph.{Graph, is_among, touches, after_effects}
+use Rattle.posix_calls.specs.declared.operation.Operation.TheVariants.{Tell, NewDir, NewFile, OpenFile, CloseFile, Write, Resize, RemoveDir, AddName, DropName, Move, Exchange}
+use Rattle.client_plan.specs.file_graph.Graph.{Graph, is_among, touches, after_effects, swapped_directories}
 use Rattle.client_plan.specs.file_graph.declared.effect.Effect.{Effect}
 use Rattle.client_plan.specs.log_record.declared.format.Record.{Record}
 use Rattle.client_plan.specs.call_effects.Blocks.{block_after}
+use Rattle.client_plan.specs.call_effects.Effects.{effects_by, recounted_file}
+use Rattle.client_plan.specs.call_effects.KnownCopies.{known_after}
 use Rattle.client_plan.specs.call_effects.NodeView.{NodeView, view_after}
 use Rattle.client_plan.specs.call_effects.Knowledge.{Knowledge, Agrees, IsForgetful, IsPlanned, knows_after, knows_made, part_of}
+use Rattle.client_plan.specs.call_effects.Records.{names_if}
 use Rattle.client_plan.specs.call_effects.Wholes.{IsSound}
+use Rattle.client_plan.proofs.call_effects_lemmas.KnownAsking.{bind_known, result_is}
+use Rattle.client_plan.proofs.call_effects_lemmas.KnownCopies.{known_alone}
 use Rattle.client_plan.proofs.call_effects_lemmas.KnownAfter.{agrees_after, made_agrees}
 use Rattle.client_plan.proofs.call_effects_lemmas.Served.{less_agrees}
 use Rattle.client_plan.specs.declared.outcome.DescriptorChange.{DescriptorChange}
@@ -39,6 +45,27 @@ own_is new own (RemoveDir at i) = refl
 own_is new own (AddName at i) = refl
 own_is new own (DropName at i) = refl
 own_is new own (Move from to i is_dir replaced) = refl
+own_is new own (Exchange first second i j) = refl
+
+-- an operation that makes a node swaps no names
+no_swaps_by : (names new : ℕ) (operation : Operation) → makes operation ≡ true → swapped_directories (effects_by names new operation) ≡ []
+no_swaps_by names new (NewDir at) on = refl
+no_swaps_by names new (NewFile at number reads writes) on = refl
+no_swaps_by names new (Tell answer) on = absurd (cc)
+no_swaps_by names new (OpenFile i empties number reads writes) on = absurd (cc)
+no_swaps_by names new (CloseFile i number) on = absurd (cc)
+no_swaps_by names new (Write i at bytes) on = absurd (cc)
+no_swaps_by names new (Resize i len) on = absurd (cc)
+no_swaps_by names new (RemoveDir at i) on = absurd (cc)
+no_swaps_by names new (AddName at i) on = absurd (cc)
+no_swaps_by names new (DropName at i) on = absurd (cc)
+no_swaps_by names new (Move from to i is_dir replaced) on = absurd (cc)
+no_swaps_by names new (Exchange first second i j) on = absurd (cc)
+
+no_swaps : (k : Knowledge) (call : Call) (new : ℕ) (operation : Operation) (es : List Effect) → IsPlanned k call new operation es → makes operation ≡ true → swapped_directories es ≡ []
+no_swaps k call new operation es plan on =
+    let found = bind_known (part_of k) (names_if (recounted_file operation)) (λ names. Gives (effects_by names new operation)) es plan.effects in
+    ap swapped_directories (sym (result_is (part_of k) (effects_by found.0 new operation) es found.2)) ∙ no_swaps_by found.0 new operation on
 
 module _ (k : Knowledge) (new : ℕ) (operation : Operation) (es : List Effect) where
   abbrev change : Option DescriptorChange
@@ -63,18 +90,23 @@ module _ (k : Knowledge) (new : ℕ) (operation : Operation) (es : List Effect) 
     granted = λ i is. less_granted false i off (and_parts (k.granted i) true is).0 refl;
   }
 
-  made_nodes : (i : ℕ) (copy : Option NodeView) → option_map (view_after es i) (cond (i == new) (Some None) (k.copies i)) ≡ Some copy → cond (i == new) (Some (view_after es new None)) (option_map (view_after es i) (k.copies i)) ≡ Some copy
-  made_nodes i copy is = elim (cases_eq i new) [
-    | inl same ↦
-        cond-true (i == new) (Some (view_after es new None)) (option_map (view_after es i) (k.copies i)) (eq-eqb i new same)
-        ∙ ap (λ j. Some (view_after es j None)) (sym same)
-        ∙ sym (ap (option_map (view_after es i)) (cond-true (i == new) (Some None) (k.copies i) (eq-eqb i new same)))
-        ∙ is
-    | inr other ↦
-        cond-false (i == new) (Some (view_after es new None)) (option_map (view_after es i) (k.copies i)) (ne_eqb i new other)
-        ∙ sym (ap (option_map (view_after es i)) (cond-false (i == new) (Some None) (k.copies i) (ne_eqb i new other)))
-        ∙ is
-  ]
+  -- without a Swap what is known of an inode after effects rests on what was known of it alone
+  made_nodes : swapped_directories es ≡ [] → (i : ℕ) (copy : Option NodeView) → known_after es (λ j. cond (j == new) (Some None) (k.copies j)) i ≡ Some copy → cond (i == new) (Some (view_after es new None)) (known_after es k.copies i) ≡ Some copy
+  made_nodes none i copy is =
+      let off : is_among i (swapped_directories es) ≡ false = ap (is_among i) none in
+      let now = sym (known_alone es (λ j. cond (j == new) (Some None) (k.copies j)) i off) ∙ is in
+      elim (cases_eq i new) [
+        | inl same ↦
+            cond-true (i == new) (Some (view_after es new None)) (known_after es k.copies i) (eq-eqb i new same)
+            ∙ ap (λ j. Some (view_after es j None)) (sym same)
+            ∙ sym (ap (option_map (view_after es i)) (cond-true (i == new) (Some None) (k.copies i) (eq-eqb i new same)))
+            ∙ now
+        | inr other ↦
+            cond-false (i == new) (Some (view_after es new None)) (known_after es k.copies i) (ne_eqb i new other)
+            ∙ known_alone es k.copies i off
+            ∙ sym (ap (option_map (view_after es i)) (cond-false (i == new) (Some None) (k.copies i) (ne_eqb i new other)))
+            ∙ now
+      ]
 
   -- a block that is known is no new one
   old_block : (i b : ℕ) (bytes : List ℕ) → cond (is_among i (touches es)) None (cond (i == new) None (k.blocks i b)) ≡ Some bytes → cond (is_among i (touches es)) None (k.blocks i b) ≡ Some bytes
@@ -87,11 +119,11 @@ module _ (k : Knowledge) (new : ℕ) (operation : Operation) (es : List Effect) 
   off_new : (i : ℕ) → not (i == new) ≡ true → (i == new) ≡ false
   off_new i is = elim (i == new) as (λ b. not b ≡ true → b ≡ false) [ true ↦ λ h. absurd (cc) | false ↦ λ h. refl ] is
 
-  pub one_less : makes operation ≡ true → IsForgetful (knows_made k new operation es) (knows_logged k es (Some new) change)
-  one_less on = record {
+  pub one_less : (call : Call) → IsPlanned k call new operation es → makes operation ≡ true → IsForgetful (knows_made k new operation es) (knows_logged k es (Some new) change)
+  one_less call plan on = record {
     client = refl;
     own = λ number. ap (λ (own : Own). own number) (sym (own_is new k.own operation));
-    copies = record { nodes = made_nodes; blocks = λ i b bytes is. kept_block i b (k.blocks i b) bytes (old_block i b bytes is) };
+    copies = record { nodes = made_nodes (no_swaps k call new operation es plan on); blocks = λ i b bytes is. kept_block i b (k.blocks i b) bytes (old_block i b bytes is) };
     granted = λ i is. let parts = and_parts (k.granted i) (not (i == new)) is in less_granted true i on parts.0 (off_new i parts.1);
   }
 
@@ -100,7 +132,7 @@ module _ (k : Knowledge) (new : ℕ) (operation : Operation) (es : List Effect) 
     held_after = with_own held k.client (own_after new k.own operation)
 
     by_made : (m : Bool) → makes operation ≡ m → Agrees (knows_logged k es (cond m (Some new) None) change) (after_effects g es) held_after
-    by_made true on = less_agrees (knows_made k new operation es) (after_effects g es) held_after (made_agrees k g held call new operation es sound agrees plan on) (knows_logged k es (Some new) change) (one_less on)
+    by_made true on = less_agrees (knows_made k new operation es) (after_effects g es) held_after (made_agrees k g held call new operation es sound agrees plan on) (knows_logged k es (Some new) change) (one_less call plan on)
     by_made false off = less_agrees (knows_after k new operation es) (after_effects g es) held_after (agrees_after k g held call new operation es sound agrees plan) (knows_logged k es None change) (no_less off)
 
 -- a call that is logged

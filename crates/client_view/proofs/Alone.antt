@@ -1,33 +1,26 @@
 -- What is known after one effect.
-use Rattle.std.proofs.Common.{◌≡◌, inl, inr, ℕ, ◌<◌, cond, length, set, [], ◌∷◌, ◌++◌, Option, Some, None, refl, ap, sym, ◌∙◌}
-use Rattle.std.specs.Prelude.{◌==◌, option_map}
+use Rattle.std.proofs.Common.{◌≡◌, inl, inr, ℕ, ◌<◌, cond, length, set, List, [], ◌∷◌, Option, Some, None, false, refl, ap, sym, ◌∙◌, subst}
+use Rattle.std.specs.Prelude.{◌==◌, IsSome, is_some, option_map, unwrap_or}
+use Rattle.std.specs.FinMap as fin
 use Rattle.std.proofs.lemmas.Bool.{cases_eq, eq-eqb, ne_eqb, cond-true, cond-false}
-use Rattle.std.proofs.lemmas.List.Concat.{flat_map-cons}
 use Rattle.client_plan.specs.file_graph.Graph.{is_among, subjects, touches}
 use Rattle.client_plan.specs.file_graph.declared.effect.Effect.{Effect}
-use Rattle.block_cache.specs.CacheList.{without_file}
-use Rattle.client_plan.specs.call_effects.NodeView.{NodeView, view_acted}
-use Rattle.record_validation.specs.KnownNodes.{known_after}
+use Rattle.client_plan.specs.file_graph.declared.effect.Effect.TheVariants as effect
+use Rattle.client_plan.specs.file_graph.declared.effect.Kind.{Kind}
+use Rattle.client_plan.specs.call_effects.KnownCopies.{known_acted, known_after, known_after_effect}
+use Rattle.client_plan.specs.call_effects.NodeView.{NodeView, in_entries, view_acted}
 use Rattle.record_validation.proofs.Steps.{on_one}
 use Rattle.client_view.specs.KnowledgeTables.{Held, copy_at, knows}
-use Rattle.client_view.specs.AfterRecord.{with_effects}
-use Rattle.client_view.proofs.Known.{set_is_known}
+use Rattle.client_view.specs.AfterRecord.{with_effects, without_touched}
+use Rattle.client_view.proofs.Known.{blocks_apart, slot_changed}
 use Rattle.client_view.proofs.Untouched.{untouched_copy}
 
 abbrev Copy : Type 0
 Copy = Option (Option NodeView)
 
-module _ (e : Effect) (j : ℕ) (alone : subjects e ≡ j ∷ []) where
-  -- it touches its subject alone
-  touched_is : (i : ℕ) → (i == j) ≡ is_among i (touches (e ∷ []))
-  touched_is i = elim (cases_eq i j) [
-    | inl same ↦ eq-eqb i j same ∙ sym (among ∙ eq-eqb j i (sym same))
-    | inr other ↦ ne_eqb i j other ∙ sym (among ∙ ne_eqb j i (λ same. other (sym same)))
-  ]
-    where
-      among : is_among i (touches (e ∷ [])) ≡ (j == i)
-      among = ap (is_among i) (flat_map-cons subjects e [] ∙ ap (λ xs. xs ++ []) alone) ∙ on_one i j
+-- ---- one slot
 
+module _ (e : Effect) (j : ℕ) (alone : subjects e ≡ j ∷ []) where
   acted : (i : ℕ) → i ≡ j → (v : Option NodeView) → view_acted e v ≡ cond (is_among i (subjects e)) (view_acted e v) v
   acted i same v = sym (ap (λ xs. cond (is_among i xs) (view_acted e v) v) alone ∙ cond-true (is_among i (j ∷ [])) (view_acted e v) v (on_one i j ∙ eq-eqb j i (sym same)))
 
@@ -35,26 +28,39 @@ module _ (e : Effect) (j : ℕ) (alone : subjects e ≡ j ∷ []) where
   at_it i same None = refl
   at_it i same (Some v) = ap (λ w. Some w) (acted i same v)
 
-  copies_after : (copies : ℕ → Copy) (i : ℕ) → cond (i == j) (option_map (view_acted e) (copies j)) (copies i) ≡ known_after (e ∷ []) copies i
-  copies_after copies i = elim (cases_eq i j) [
+  elsewhere : (i : ℕ) (c : Copy) → (j == i) ≡ false → c ≡ option_map (λ v. cond (is_among i (subjects e)) (view_acted e v) v) c
+  elsewhere i None off = refl
+  elsewhere i (Some v) off = sym (ap (λ xs. Some (cond (is_among i xs) (view_acted e v) v)) alone ∙ ap (λ w. Some w) (cond-false (is_among i (j ∷ [])) (view_acted e v) v (on_one i j ∙ off)))
+
+  by_inode : (copies : ℕ → Copy) (i : ℕ) → cond (i == j) (option_map (view_acted e) (copies j)) (copies i) ≡ known_acted e copies i
+  by_inode copies i = elim (cases_eq i j) [
     | inl same ↦
         cond-true (i == j) (option_map (view_acted e) (copies j)) (copies i) (eq-eqb i j same)
         ∙ ap (λ n. option_map (view_acted e) (copies n)) (sym same)
         ∙ at_it i same (copies i)
     | inr other ↦
         cond-false (i == j) (option_map (view_acted e) (copies j)) (copies i) (ne_eqb i j other)
-        ∙ sym (untouched_copy (e ∷ []) i (copies i) (sym (touched_is i) ∙ ne_eqb i j other))
+        ∙ elsewhere i (copies i) (ne_eqb j i (λ same. other (sym same)))
   ]
 
-  -- the subject's copy is acted on in its place, and its blocks go
-  pub acted_is_known : (h : Held) (old new : Copy) → j < length h.copies → old ≡ copy_at h.copies j → new ≡ option_map (view_acted e) old → knows (record h { copies = set h.copies j new; blocks = without_file j h.blocks }) ≡ with_effects (knows h) (e ∷ [])
-  acted_is_known h old new inside is to =
-      ap (λ (c : Copy). knows (record h { copies = set h.copies j c; blocks = without_file j h.blocks })) (to ∙ ap (option_map (view_acted e)) is)
-      ∙ set_is_known h j (option_map (view_acted e) (copy_at h.copies j)) inside
-      ∙ (λ t. record {
-        client = h.client;
-        own = (knows h).own;
-        copies = λ i. copies_after (copy_at h.copies) i t;
-        blocks = λ i b. cond (touched_is i t) None ((knows h).blocks i b);
-        granted = (knows h).granted;
-      })
+  -- its subject's slot is acted on in its place
+  pub slot_acted : (cs : List Copy) (old new : Copy) → j < length cs → old ≡ copy_at cs j → new ≡ option_map (view_acted e) old → copy_at (set cs j new) ≡ known_acted e (copy_at cs)
+  slot_acted cs old new inside is to = λ t i.
+      (slot_changed cs j new i inside
+      ∙ ap (λ c. cond (i == j) c (copy_at cs i)) (to ∙ ap (option_map (view_acted e)) is)
+      ∙ by_inode (copy_at cs) i) t
+
+-- ---- what the client knows then
+
+-- the copies are as an effect leaves them, and the blocks of what it touches go
+pub acted_is_known : (h : Held) (e : Effect) (cs : List Copy) → copy_at cs ≡ known_after_effect e (copy_at h.copies) → knows (record h { copies = cs; blocks = without_touched h.blocks (e ∷ []) }) ≡ with_effects (knows h) (e ∷ [])
+acted_is_known h e cs is = λ t. record {
+  client = h.client;
+  own = (knows h).own;
+  copies = is t;
+  blocks = λ i b. blocks_apart h (λ k. is_among k (touches (e ∷ []))) cs same i b t;
+  granted = (knows h).granted;
+}
+  where
+    same : (k : ℕ) → is_among k (touches (e ∷ [])) ≡ false → copy_at cs k ≡ copy_at h.copies k
+    same k off = ap (λ (known : ℕ → Copy). known k) is ∙ untouched_copy (e ∷ []) (copy_at h.copies) k off

@@ -18,6 +18,7 @@ subject_is (effect.Names i n) fits = inode_is i fits.0
 subject_is (effect.Size i size) fits = inode_is i fits.0
 subject_is (effect.Bytes i at new) fits = inode_is i fits.0
 subject_is (effect.Drop i) fits = inode_is i fits
+subject_is (effect.Swap d a e b) fits = inode_is d fits.0
 
 pub inode_touched : (e : Effect) (i : ℕ) → i ≡ subject e → FitsLimits e → is_inode i ≡ true
 inode_touched e i is fits = ap is_inode is ∙ subject_is e fits

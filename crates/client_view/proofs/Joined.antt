@@ -3,6 +3,7 @@ use Rattle.std.proofs.Common.{◌≡◌, ℕ, zero, suc, ◌+◌, ◌-◌, ◌*�
 use Rattle.std.specs.Prelude.{is_some, option_map}
 use Rattle.posix_calls.specs.Content.{range}
 use Rattle.posix_calls.specs.Part.{blocks_touched}
+use Rattle.posix_calls.specs.declared.limits.TheConstants.{UNIT_BYTES}
 use Rattle.client_plan.specs.call_effects.Blocks.{joined_bytes, blocks_joined, range_by}
 
 -- the first block, and what follows it
@@ -65,7 +66,7 @@ cut_of : (o : Option (List ℕ)) (items : List ℕ) (skip count : ℕ) → is_so
 cut_of None items skip count some all = absurd (cc)
 cut_of (Some joined) items skip count some all = ap Some (all joined refl)
 
-pub read_is : (blocks : ℕ → Option (List ℕ)) (at count touched : ℕ) (items : List ℕ) → touched ≡ blocks_touched at count → is_some (blocks_joined blocks (at / 4096) touched) ≡ true → ((joined : List ℕ) → blocks_joined blocks (at / 4096) touched ≡ Some joined → items ≡ [] ++ range (at % 4096) count joined) → Some items ≡ range_by blocks at count
+pub read_is : (blocks : ℕ → Option (List ℕ)) (at count touched : ℕ) (items : List ℕ) → touched ≡ blocks_touched at count → is_some (blocks_joined blocks (at / UNIT_BYTES) touched) ≡ true → ((joined : List ℕ) → blocks_joined blocks (at / UNIT_BYTES) touched ≡ Some joined → items ≡ [] ++ range (at % UNIT_BYTES) count joined) → Some items ≡ range_by blocks at count
 read_is blocks at count touched items is some all =
-    let skip : at % 4096 ≡ at - 4096 * (at / 4096) = omega arith in
-    cut_of (blocks_joined blocks (at / 4096) touched) items (at % 4096) count some all ∙ ap (λ n. option_map (range n count) (blocks_joined blocks (at / 4096) touched)) skip ∙ ap (λ n. option_map (range (at - 4096 * (at / 4096)) count) (blocks_joined blocks (at / 4096) n)) is
+    let skip : at % UNIT_BYTES ≡ at - UNIT_BYTES * (at / UNIT_BYTES) = omega arith in
+    cut_of (blocks_joined blocks (at / UNIT_BYTES) touched) items (at % UNIT_BYTES) count some all ∙ ap (λ n. option_map (range n count) (blocks_joined blocks (at / UNIT_BYTES) touched)) skip ∙ ap (λ n. option_map (range (at - UNIT_BYTES * (at / UNIT_BYTES)) count) (blocks_joined blocks (at / UNIT_BYTES) n)) is

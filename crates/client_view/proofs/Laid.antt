@@ -1,10 +1,11 @@
 -- Records laid over a block of a graph's file come to the block that it has after them.
-use Rattle.std.proofs.Common.{◌≡◌, ℕ, ◌*◌, Bool, true, false, cond, List, [], ◌∷◌, take, Option, Some, None, refl, ap, sym, ◌∙◌}
+use Rattle.std.proofs.Common.{◌≡◌, ℕ, ◌*◌, Bool, true, false, cond, List, [], ◌∷◌, take, Option, Some, None, refl, ap, sym, ◌∙◌, subst}
 use Rattle.std.specs.Prelude.{option_map, unwrap_or}
 use Rattle.std.specs.FinMap as fin
 use Rattle.std.proofs.Math.Seq.{drop-nil}
 use Rattle.posix_calls.specs.Content.{Entries, with_length, with_bytes}
-use Rattle.client_plan.specs.file_graph.Graph.{Graph, Node, FileBody, DirBody, subject_after, after_effect, after_effects, file_bytes, in_directory, in_file, is_among, subjects, with_body}
+use Rattle.posix_calls.specs.declared.limits.TheConstants.{UNIT_BYTES}
+use Rattle.client_plan.specs.file_graph.Graph.{Graph, Node, FileBody, DirBody, acted_all, acted_graph, after_effect, after_effects, child_at, exchanged_entries, file_bytes, in_directory, in_file, is_among, subject_after, subjects, with_body}
 use Rattle.client_plan.specs.file_graph.declared.effect.Effect.{Effect}
 use Rattle.client_plan.specs.file_graph.declared.effect.Effect.TheVariants as effect
 use Rattle.client_plan.specs.file_graph.declared.effect.Kind.{Kind}
@@ -43,7 +44,7 @@ changed f h b acts o block told bytes is =
 told_acted : (e : Effect) (b : ℕ) (o : Option Node) (block : Option (List ℕ)) → IsTold b o block → IsTold b (subject_after e o) (block_acted e b block)
 told_acted (effect.Make i kind.File) b o block told bytes is =
     let none : [] ≡ bytes = cc in
-    sym (ap (λ xs. Some (take 4096 xs)) (drop-nil (4096 * b))) ∙ ap (λ xs. Some (block_of b xs)) none
+    sym (ap (λ xs. Some (take UNIT_BYTES xs)) (drop-nil (UNIT_BYTES * b))) ∙ ap (λ xs. Some (block_of b xs)) none
 told_acted (effect.Make i kind.Directory) b o block told bytes is = absurd (cc)
 told_acted (effect.Enter d i k name) b o block told bytes is = told bytes (sym (entries_keep (λ es. fin.insert es name (i, k)) o) ∙ is)
 told_acted (effect.Leave d name) b o block told bytes is = told bytes (sym (entries_keep (λ es. fin.remove es name) o) ∙ is)
@@ -51,15 +52,37 @@ told_acted (effect.Names i m) b o block told bytes is = told bytes (sym (names_k
 told_acted (effect.Size i size) b o block told bytes is = changed (with_length size) (block_resized size b) b (resized_block b size) o block told bytes is
 told_acted (effect.Bytes i at new) b o block told bytes is = changed (with_bytes at new) (block_written at new b) b (written_block b at new) o block told bytes is
 told_acted (effect.Drop i) b o block told bytes is = absurd (cc)
+told_acted (effect.Swap d a e x) b o block told bytes is = told bytes is
 
 told_if : (t : Bool) (e : Effect) (b : ℕ) (o : Option Node) (block : Option (List ℕ)) → IsTold b o block → IsTold b (cond t (subject_after e o) o) (cond t (block_acted e b block) block)
 told_if true e b o block told = told_acted e b o block told
 told_if false e b o block told = told
 
+told_entered : (t : Bool) (d c : ℕ) (k : Kind) (name : List ℕ) (b : ℕ) (o : Option Node) (block : Option (List ℕ)) → IsTold b o block → IsTold b (cond t (subject_after (effect.Enter d c k name) o) o) block
+told_entered true d c k name b o block told = told_acted (effect.Enter d c k name) b o block told
+told_entered false d c k name b o block told = told
+
+-- a Swap enters names, and changes no bytes
+told_exchanged : (g : Graph) (d : ℕ) (a : List ℕ) (e : ℕ) (n : List ℕ) (x y : Option (ℕ × Kind)) (i b : ℕ) (block : Option (List ℕ)) → IsTold b (g i) block → IsTold b (acted_all g (exchanged_entries d a e n x y) i) block
+told_exchanged g d a e n (Some x) (Some y) i b block told =
+    let first = effect.Enter d y.0 y.1 a in
+    told_entered (is_among i (e ∷ [])) e x.0 x.1 n b (acted_graph g first i) block (told_entered (is_among i (d ∷ [])) d y.0 y.1 a b (g i) block told)
+told_exchanged g d a e n (Some x) None i b block told = told
+told_exchanged g d a e n None y i b block told = told
+
+same_block : (t : Bool) (block : Option (List ℕ)) → block ≡ cond t block block
+same_block true block = refl
+same_block false block = refl
+
+told_effect : (e : Effect) (g : Graph) (i b : ℕ) (block : Option (List ℕ)) → IsTold b (g i) block → IsTold b (after_effect g e i) (cond (is_among i (subjects e)) (block_acted e b block) block)
+told_effect (effect.Swap d a e n) g i b block told =
+    subst (IsTold b (after_effect g (effect.Swap d a e n) i)) (same_block (is_among i (d ∷ e ∷ [])) block) (told_exchanged g d a e n (child_at g d a) (child_at g e n) i b block told)
+told_effect e g i b block told = told_if (is_among i (subjects e)) e b (g i) block told
+
 told_effects : (es : List Effect) (g : Graph) (i b : ℕ) (block : Option (List ℕ)) → IsTold b (g i) block → IsTold b (after_effects g es i) (block_after es i b block)
 told_effects [] g i b block told = told
 told_effects (e ∷ es) g i b block told =
-    told_effects es (after_effect g e) i b (cond (is_among i (subjects e)) (block_acted e b block) block) (told_if (is_among i (subjects e)) e b (g i) block told)
+    told_effects es (after_effect g e) i b (cond (is_among i (subjects e)) (block_acted e b block) block) (told_effect e g i b block told)
 
 told_records : (rs : List Record) (g : Graph) (i b : ℕ) (block : Option (List ℕ)) → IsTold b (g i) block → IsTold b (after_records g rs i) (block_laid rs i b block)
 told_records [] g i b block told = told

@@ -1,5 +1,5 @@
 -- Which blocks stay in a client's cache, in their order, as those of some inodes go.
-use Rattle.std.proofs.Common.{◌≡◌, inl, inr, ℕ, zero, suc, ◌+◌, ◌<◌, ◌≤◌, Bool, true, false, cond, List, [], ◌∷◌, ◌++◌, length, take, get_or, Option, None, refl, ap, sym, ◌∙◌, arith}
+use Rattle.std.proofs.Common.{◌≡◌, inl, inr, ℕ, zero, suc, ◌+◌, ◌<◌, ◌≤◌, Bool, true, false, cond, List, [], ◌∷◌, ◌++◌, length, take, get_or, Option, None, Some, refl, ap, sym, ◌∙◌, append-nil, arith}
 use Rattle.std.specs.Prelude.{◌==◌, ◌||◌, not}
 use Rattle.std.specs.List.{filter}
 use Rattle.std.proofs.lemmas.Bool.{cases_eq, eq-eqb, ne_eqb}
@@ -10,7 +10,8 @@ use Rattle.std.proofs.lemmas.Grind.{flat_map-append}
 use Rattle.block_cache.specs.CacheList.{Block, without_file}
 use Rattle.client_plan.specs.file_graph.Graph.{is_among, subjects, touches}
 use Rattle.client_plan.specs.file_graph.declared.effect.Effect.{Effect}
-use Rattle.record_validation.proofs.Steps.{on_one}
+use Rattle.client_plan.specs.file_graph.Subject.{one_or_two}
+use Rattle.record_validation.proofs.Steps.{on_one, on_two}
 use Rattle.client_view.specs.AfterRecord.{without_made, without_touched}
 use Rattle.client_view.proofs.Untouched.{among_more}
 
@@ -43,12 +44,12 @@ turned i j = elim (cases_eq i j) [
   | inr other ↦ ne_eqb j i (λ same. other (sym same)) ∙ sym (ne_eqb i j other)
 ]
 
-pub touched_pushed : (i j : ℕ) (es : List Effect) (e : Effect) → subjects e ≡ j ∷ [] → is_among i (touches (es ++ e ∷ [])) ≡ (is_among i (touches es) || (i == j))
-touched_pushed i j es e alone =
-    ap (is_among i) (flat_map-append subjects es (e ∷ []))
-    ∙ list_any-append (λ x. x == i) (touches es) (touches (e ∷ []))
-    ∙ ap (λ xs. is_among i (touches es) || is_among i xs) (flat_map-cons subjects e [] ∙ ap (λ xs. xs ++ []) alone)
-    ∙ ap (λ b. is_among i (touches es) || b) (on_one i j ∙ turned i j)
+pub touched_joined : (i : ℕ) (es more : List Effect) → is_among i (touches (es ++ more)) ≡ (is_among i (touches es) || is_among i (touches more))
+touched_joined i es more = ap (is_among i) (flat_map-append subjects es more) ∙ list_any-append (λ x. x == i) (touches es) (touches more)
+
+-- one effect touches what it changes
+touched_by : (e : Effect) → touches (e ∷ []) ≡ subjects e
+touched_by e = flat_map-cons subjects e [] ∙ append-nil (subjects e)
 
 pub taken : (es : List Effect) (n : ℕ) (e : Effect) → n < length es → e ≡ get_or es n e → take (n + 1) es ≡ take n es ++ e ∷ []
 taken es n e inside is = take_more es n e inside ∙ ap (λ (x : Effect). take n es ++ x ∷ []) (sym is)
@@ -56,22 +57,37 @@ taken es n e inside is = take_more es n e inside ∙ ap (λ (x : Effect). take n
 pub left_none : (bs : List Block) → bs ≡ without_touched bs []
 left_none bs = sym (none_apart (λ i. is_among i (touches [])) (λ i. refl) bs)
 
-pub left_next : (bs mid new : List Block) (es : List Effect) (n : ℕ) (e : Effect) (j : ℕ) → n < length es → e ≡ get_or es n e → subjects e ≡ j ∷ [] → mid ≡ without_touched bs (take n es) → new ≡ without_file j mid → new ≡ without_touched bs (take (n + 1) es)
-left_next bs mid new es n e j inside is alone so_far one =
+pub left_next : (bs mid new : List Block) (es : List Effect) (n : ℕ) (e : Effect) → n < length es → e ≡ get_or es n e → mid ≡ without_touched bs (take n es) → new ≡ without_touched mid (e ∷ []) → new ≡ without_touched bs (take (n + 1) es)
+left_next bs mid new es n e inside is so_far one =
     one
-    ∙ ap (without_file j) so_far
-    ∙ apart_twice (λ i. is_among i (touches (take n es))) (λ i. i == j) bs
-    ∙ same_apart (λ i. is_among i (touches (take n es)) || (i == j)) (λ i. is_among i (touches (take (n + 1) es))) more bs
+    ∙ ap (λ (xs : List Block). without_touched xs (e ∷ [])) so_far
+    ∙ apart_twice (λ i. is_among i (touches (take n es))) (λ i. is_among i (touches (e ∷ []))) bs
+    ∙ same_apart (λ i. is_among i (touches (take n es)) || is_among i (touches (e ∷ []))) (λ i. is_among i (touches (take (n + 1) es))) more bs
   where
-    more : (i : ℕ) → (is_among i (touches (take n es)) || (i == j)) ≡ is_among i (touches (take (n + 1) es))
-    more i = sym (ap (λ (xs : List Effect). is_among i (touches xs)) (taken es n e inside is) ∙ touched_pushed i j (take n es) e alone)
+    more : (i : ℕ) → (is_among i (touches (take n es)) || is_among i (touches (e ∷ []))) ≡ is_among i (touches (take (n + 1) es))
+    more i = sym (ap (λ (xs : List Effect). is_among i (touches xs)) (taken es n e inside is) ∙ touched_joined i (take n es) (e ∷ []))
 
 pub left_all : (bs new : List Block) (es : List Effect) (n : ℕ) → length es ≤ n → new ≡ without_touched bs (take n es) → new ≡ without_touched bs es
 left_all bs new es n done is = is ∙ ap (without_touched bs) (take_all n es done)
 
 -- those of one effect
-pub left_alone : (bs : List Block) (e : Effect) (j : ℕ) → subjects e ≡ j ∷ [] → without_file j bs ≡ without_touched bs (e ∷ [])
-left_alone bs e j alone = same_apart (λ i. i == j) (λ i. is_among i (touches (e ∷ []))) (λ i. sym (touched_pushed i j [] e alone)) bs
+one_among : (i d : ℕ) → (i == d) ≡ is_among i (d ∷ [])
+one_among i d = turned d i ∙ sym (on_one i d)
+
+two_among : (i d e : ℕ) → ((i == d) || (i == e)) ≡ is_among i (d ∷ e ∷ [])
+two_among i d e = ap (λ b. b || (i == e)) (turned d i) ∙ ap (λ b. (d == i) || b) (turned e i) ∙ sym (on_two i d e)
+
+among_touched : (e : Effect) (is : List ℕ) (i : ℕ) → subjects e ≡ is → is_among i is ≡ is_among i (touches (e ∷ []))
+among_touched e is i are = sym (ap (is_among i) (touched_by e ∙ are))
+
+pub left_alone : (bs : List Block) (e : Effect) (d : ℕ) (second : Option ℕ) → subjects e ≡ one_or_two d second → second ≡ None → without_file d bs ≡ without_touched bs (e ∷ [])
+left_alone bs e d second are none =
+    same_apart (λ i. i == d) (λ i. is_among i (touches (e ∷ []))) (λ i. one_among i d ∙ among_touched e (d ∷ []) i (are ∙ ap (one_or_two d) none)) bs
+
+pub left_both : (bs : List Block) (e : Effect) (d other : ℕ) (second : Option ℕ) → subjects e ≡ one_or_two d second → second ≡ Some other → without_file other (without_file d bs) ≡ without_touched bs (e ∷ [])
+left_both bs e d other second are some =
+    apart_twice (λ i. i == d) (λ i. i == other) bs
+    ∙ same_apart (λ i. (i == d) || (i == other)) (λ i. is_among i (touches (e ∷ []))) (λ i. two_among i d other ∙ among_touched e (d ∷ other ∷ []) i (are ∙ ap (one_or_two d) some)) bs
 
 -- ---- what effects touch, one by one
 
@@ -79,12 +95,12 @@ or_true : (t : Bool) → (t || true) ≡ true
 or_true true = refl
 or_true false = refl
 
-pub touched_at : (es : List Effect) (k : ℕ) (e : Effect) (j : ℕ) → k < length es → e ≡ get_or es k e → subjects e ≡ j ∷ [] → is_among j (touches es) ≡ true
-touched_at [] k e j inside is alone = absurd (omega arith)
-touched_at (x ∷ es) zero e j inside is alone =
-    among_more j x es ∙ ap (λ t. t || is_among j (touches es)) (ap (λ (y : Effect). is_among j (subjects y)) (sym is) ∙ ap (is_among j) alone ∙ on_one j j ∙ eq-eqb j j refl)
-touched_at (x ∷ es) (suc k) e j inside is alone =
-    among_more j x es ∙ ap (λ t. is_among j (subjects x) || t) (touched_at es k e j (omega arith) is alone) ∙ or_true (is_among j (subjects x))
+pub touched_at : (es : List Effect) (k : ℕ) (e : Effect) (j : ℕ) → k < length es → e ≡ get_or es k e → is_among j (subjects e) ≡ true → is_among j (touches es) ≡ true
+touched_at [] k e j inside is among = absurd (omega arith)
+touched_at (x ∷ es) zero e j inside is among =
+    among_more j x es ∙ ap (λ t. t || is_among j (touches es)) (ap (λ (y : Effect). is_among j (subjects y)) (sym is) ∙ among)
+touched_at (x ∷ es) (suc k) e j inside is among =
+    among_more j x es ∙ ap (λ t. is_among j (subjects x) || t) (touched_at es k e j (omega arith) is among) ∙ or_true (is_among j (subjects x))
 
 -- ---- those of a node that is made
 

@@ -6,7 +6,7 @@ use Rattle.posix_calls.specs.Part.{Part, Known, run_part}
 use Rattle.posix_calls.specs.declared.call.Call.{Call}
 use Rattle.posix_calls.specs.declared.call.Reply.{Reply}
 use Rattle.posix_calls.specs.declared.operation.Operation.{Operation}
-use Rattle.posix_calls.specs.declared.operation.Operation.TheVariants.{Tell, NewDir, NewFile, OpenFile, CloseFile, Write, Resize, RemoveDir, AddName, DropName, Move}
+use Rattle.posix_calls.specs.declared.operation.Operation.TheVariants.{Tell, NewDir, NewFile, OpenFile, CloseFile, Write, Resize, RemoveDir, AddName, DropName, Move, Exchange}
 use Rattle.client_plan.specs.file_graph.Numbers.{is_inode}
 use Rattle.client_plan.specs.file_graph.declared.effect.Effect.{Effect}
 use Rattle.client_plan.specs.file_graph.declared.effect.Effect.TheVariants as effect
@@ -46,6 +46,7 @@ made_inode p (RemoveDir at i) new es n told fit made = absurd (cc)
 made_inode p (AddName at i) new es n told fit made = absurd (cc)
 made_inode p (DropName at i) new es n told fit made = absurd (cc)
 made_inode p (Move from to i is_dir replaced) new es n told fit made = absurd (cc)
+made_inode p (Exchange first second i j) new es n told fit made = absurd (cc)
 
 module _ (k : Knowledge) (h : Holdings) (of : AreHoldingsOf k h) (c : Call) (entry : Record) (reply : Reply) (made : Option ℕ) (change : Option DescriptorChange) (comes : outcome (part_of k) h c ≡ outcomes.Log entry reply made change) where
   ready : IsReady k h c entry reply made change

@@ -5,7 +5,9 @@ use Rattle.std.specs.List.{AllByRecursion}
 use Rattle.std.proofs.lemmas.List.{take_all, drop_all}
 use Rattle.std.proofs.lemmas.Bool.Decides.{nat_tests}
 use Rattle.posix_calls.specs.Content.{with_bytes}
+use Rattle.posix_calls.specs.declared.limits.TheConstants.{UNIT_BYTES}
 use Rattle.client_plan.specs.file_graph.Graph.{is_among, subjects}
+use Rattle.client_plan.specs.file_graph.Subject.{subject}
 use Rattle.client_plan.specs.file_graph.declared.effect.Effect.{Effect}
 use Rattle.client_plan.specs.file_graph.declared.effect.Effect.TheVariants as effect
 use Rattle.client_plan.specs.log_record.declared.format.Record.{Record}
@@ -22,20 +24,20 @@ use Rattle.client_view.proofs.Buffers.{behind_all, none_more}
 nothing_put : (old : List ℕ) → with_bytes 0 [] old ≡ old
 nothing_put old = let none : 0 - length old ≡ 0 = omega arith in ap (λ n. ((take 0 old ++ replicate n 0) ++ []) ++ drop (0 + 0) old) none
 
-pub ends_before : (at b : ℕ) (new old : List ℕ) → length old ≤ 4096 → at + length new ≤ 4096 * b → block_written at new b old ≡ old
+pub ends_before : (at b : ℕ) (new old : List ℕ) → length old ≤ UNIT_BYTES → at + length new ≤ UNIT_BYTES * b → block_written at new b old ≡ old
 ends_before at b new old short less =
-    let first : at - 4096 * b ≡ 0 = omega (arith, less) in
-    let none : drop (4096 * b - at) new ≡ [] = drop_all (4096 * b - at) new (omega (arith, less)) in
-    ap (λ n. take 4096 (with_bytes n (drop (4096 * b - at) new) old)) first
-    ∙ ap (λ xs. take 4096 (with_bytes 0 xs old)) none
-    ∙ ap (take 4096) (nothing_put old)
-    ∙ take_all 4096 old short
+    let first : at - UNIT_BYTES * b ≡ 0 = omega (arith, less) in
+    let none : drop (UNIT_BYTES * b - at) new ≡ [] = drop_all (UNIT_BYTES * b - at) new (omega (arith, less)) in
+    ap (λ n. take UNIT_BYTES (with_bytes n (drop (UNIT_BYTES * b - at) new) old)) first
+    ∙ ap (λ xs. take UNIT_BYTES (with_bytes 0 xs old)) none
+    ∙ ap (take UNIT_BYTES) (nothing_put old)
+    ∙ take_all UNIT_BYTES old short
 
-pub begins_behind : (at b : ℕ) (new old : List ℕ) → length old ≤ 4096 → 4096 ≤ length old → 4096 * b + 4096 ≤ at → block_written at new b old ≡ old
+pub begins_behind : (at b : ℕ) (new old : List ℕ) → length old ≤ UNIT_BYTES → UNIT_BYTES ≤ length old → UNIT_BYTES * b + UNIT_BYTES ≤ at → block_written at new b old ≡ old
 begins_behind at b new old short whole behind =
-    behind_all 4096 (at - 4096 * b) (drop (4096 * b - at) new) old short (omega (arith, behind))
-    ∙ none_more 4096 (length old) whole (take 4096 old)
-    ∙ take_all 4096 old short
+    behind_all UNIT_BYTES (at - UNIT_BYTES * b) (drop (UNIT_BYTES * b - at) new) old short (omega (arith, behind))
+    ∙ none_more UNIT_BYTES (length old) whole (take UNIT_BYTES old)
+    ∙ take_all UNIT_BYTES old short
 
 -- ---- one effect
 
@@ -54,10 +56,10 @@ parts : (a b : Bool) → (a && b) ≡ false → (a ≡ false) ⊎ (b ≡ false)
 parts true b e = inr e
 parts false b e = inl refl
 
-left : (at end b n : ℕ) (t : Bool) → (t && (nat_lt (4096 * b) end && (nat_lt at (4096 * b + 4096) || nat_lt n 4096))) ≡ false → t ≡ true → (end ≤ 4096 * b) ⊎ ((4096 * b + 4096 ≤ at) × (4096 ≤ n))
-left at end b n t is yes' = elim (parts (nat_lt (4096 * b) end) (nat_lt at (4096 * b + 4096) || nat_lt n 4096) (ap (λ x. x && (nat_lt (4096 * b) end && (nat_lt at (4096 * b + 4096) || nat_lt n 4096))) (sym yes') ∙ is)) [
-  | inl less ↦ inl (low (4096 * b) end less)
-  | inr more ↦ let both = both_false (nat_lt at (4096 * b + 4096)) (nat_lt n 4096) more in inr (low at (4096 * b + 4096) both.0, low n 4096 both.1)
+left : (at end b n : ℕ) (t : Bool) → (t && (nat_lt (UNIT_BYTES * b) end && (nat_lt at (UNIT_BYTES * b + UNIT_BYTES) || nat_lt n UNIT_BYTES))) ≡ false → t ≡ true → (end ≤ UNIT_BYTES * b) ⊎ ((UNIT_BYTES * b + UNIT_BYTES ≤ at) × (UNIT_BYTES ≤ n))
+left at end b n t is yes' = elim (parts (nat_lt (UNIT_BYTES * b) end) (nat_lt at (UNIT_BYTES * b + UNIT_BYTES) || nat_lt n UNIT_BYTES) (ap (λ x. x && (nat_lt (UNIT_BYTES * b) end && (nat_lt at (UNIT_BYTES * b + UNIT_BYTES) || nat_lt n UNIT_BYTES))) (sym yes') ∙ is)) [
+  | inl less ↦ inl (low (UNIT_BYTES * b) end less)
+  | inr more ↦ let both = both_false (nat_lt at (UNIT_BYTES * b + UNIT_BYTES)) (nat_lt n UNIT_BYTES) more in inr (low at (UNIT_BYTES * b + UNIT_BYTES) both.0, low n UNIT_BYTES both.1)
 ]
 
 pub written_reach : (j at : ℕ) (new : List ℕ) → IsReachOf (effect.Bytes j at new ∷ []) (reach.Written j at (at + length new))
@@ -69,8 +71,22 @@ written_reach j at new i b (Some block) short is =
       | inr more ↦ begins_behind at b new block short more.1 more.0
     ]))
 
-pub subject_reach : (e : Effect) (j : ℕ) → subjects e ≡ j ∷ [] → IsReachOf (e ∷ []) (reach.OneInode j)
-subject_reach e j alone i b block short is = ap (λ t. cond t (block_acted e b block) block) (ap (is_among i) alone ∙ on_one i j ∙ is)
+-- a Swap changes no block
+none_swapped : (d : ℕ) (a : List ℕ) (e : ℕ) (n : List ℕ) (s : RecordReach) → IsReachOf (effect.Swap d a e n ∷ []) s
+none_swapped d a e n s i b block short is = unless (is_among i (d ∷ e ∷ [])) block block (λ same. refl)
+
+alone_reach : (e : Effect) (j : ℕ) → subjects e ≡ j ∷ [] → IsReachOf (e ∷ []) (reach.OneInode j)
+alone_reach e j alone i b block short is = ap (λ t. cond t (block_acted e b block) block) (ap (is_among i) alone ∙ on_one i j ∙ is)
+
+pub subject_reach : (e : Effect) → IsReachOf (e ∷ []) (reach.OneInode (subject e))
+subject_reach (effect.Swap d a e n) = none_swapped d a e n (reach.OneInode d)
+subject_reach (effect.Make i k) = alone_reach (effect.Make i k) i refl
+subject_reach (effect.Enter d i k name) = alone_reach (effect.Enter d i k name) d refl
+subject_reach (effect.Leave d name) = alone_reach (effect.Leave d name) d refl
+subject_reach (effect.Names i n) = alone_reach (effect.Names i n) i refl
+subject_reach (effect.Size i size) = alone_reach (effect.Size i size) i refl
+subject_reach (effect.Bytes i at new) = alone_reach (effect.Bytes i at new) i refl
+subject_reach (effect.Drop i) = alone_reach (effect.Drop i) i refl
 
 -- ---- records and their reaches
 

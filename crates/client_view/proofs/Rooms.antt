@@ -1,28 +1,30 @@
 -- Names are entered in room that was taken before the first of the effects was done.
 use Rattle.std.proofs.Common.{◌≡◌, ◌≤◌, ◌<◌, ◌+◌, ◌-◌, ℕ, zero, suc, Bool, true, false, cond, List, [], ◌∷◌, ◌++◌, length, get_or, take, Option, Some, None, inl, inr, refl, ap, sym, ◌∙◌, subst, arith}
-use Rattle.std.specs.Prelude.{◌==◌, IsSome, option_map}
+use Rattle.std.specs.Prelude.{◌==◌, IsSome, is_some, option_map, unwrap_or}
 use Rattle.std.specs.FinMap as fin
 use Rattle.std.specs.List.{list_any}
 use Rattle.std.specs.Ordering.{nat_cmp}
 use Rattle.std.specs.Cmp.Lexicographic.{slice_cmp, nat_list_cmp_total}
-use Rattle.std.proofs.lemmas.Bool.{cases_eq}
+use Rattle.std.proofs.lemmas.Bool.{cases_eq, cond-true, eqb-true}
 use Rattle.std.proofs.lemmas.List.{get_or_append_left, get_or_at, get_or_default, length-take-le, take_all}
-use Rattle.client_plan.specs.file_graph.Graph.{is_among, subjects, touches}
+use Rattle.client_plan.specs.file_graph.Graph.{exchanged_entries, is_among, subjects, touches}
 use Rattle.client_plan.specs.file_graph.Subject.{subject}
 use Rattle.client_plan.specs.file_graph.declared.effect.Effect.{Effect}
 use Rattle.client_plan.specs.file_graph.declared.effect.Effect.TheVariants as effect
 use Rattle.client_plan.specs.file_graph.declared.effect.Kind.{Kind}
 use Rattle.client_plan.specs.file_graph.declared.effect.Kind.TheVariants as kind
-use Rattle.client_plan.specs.call_effects.NodeView.{NodeView, FileView, DirView, view_acted, view_after}
+use Rattle.client_plan.specs.call_effects.NodeView.{NodeView, FileView, DirView, view_acted, view_entries}
 use Rattle.client_plan.specs.call_effects.Knowledge.{Knowledge}
-use Rattle.record_validation.specs.KnownNodes.{known_after}
+use Rattle.client_plan.specs.call_effects.KnownCopies.{Copies, child_known, known_acted, known_acted_all, known_after, known_after_effect}
+use Rattle.client_plan.proofs.call_effects_lemmas.KnownCopies.{known_joined, some_after}
 use Rattle.record_validation.specs.NodeAnswers.{entries_of}
 use Rattle.client_view.specs.AfterRecord.{with_effects}
 use Rattle.client_view.specs.Preparation.{AreReady, IsRoomOf, any_enters, enters, names_known}
 use Rattle.client_view.specs.declared.enter_room.EnterRoom.{EnterRoom}
-use Rattle.record_validation.proofs.Steps.{views_joined}
+use Rattle.record_validation.proofs.Steps.{on_one}
+use Rattle.record_validation.proofs.Taken.{still_known}
 use Rattle.client_view.proofs.ForgottenBlocks.{twice}
-use Rattle.client_view.proofs.LeftBlocks.{taken, touched_pushed}
+use Rattle.client_view.proofs.LeftBlocks.{taken, touched_joined}
 use Rattle.client_view.proofs.Untouched.{neither}
 
 abbrev Copy : Type 0
@@ -66,26 +68,52 @@ grows (effect.Bytes i at new) None = omega arith
 grows (effect.Bytes i at new) (Some (FileView names size)) = omega arith
 grows (effect.Bytes i at new) (Some (DirView names es)) = omega arith
 grows (effect.Drop i) v = omega arith
+grows (effect.Swap d a e b) v = omega arith
 
 grows_if : (b : Bool) (e : Effect) (v : Option NodeView) → names_of (cond b (view_acted e v) v) ≤ names_of v + 1
 grows_if true e v = grows e v
 grows_if false e v = omega arith
 
+-- a name that is there already is none more
+set_by : (t : Bool) (d c : ℕ) (k : Kind) (a : List ℕ) (o : Copy) → (t ≡ true → IsSome (fin.get (view_entries (unwrap_or o None)) a)) → names_known (option_map (λ v. cond t (view_acted (effect.Enter d c k a) v) v) o) ≡ names_known o
+set_by false d c k a None there = refl
+set_by false d c k a (Some v) there = refl
+set_by true d c k a None there = refl
+set_by true d c k a (Some None) there = refl
+set_by true d c k a (Some (Some (FileView names size))) there = refl
+set_by true d c k a (Some (Some (DirView names es))) there = fin.len-insert nat_list_cmp_total es a (c, k) ∙ cond-true (fin.contains_key es a) (fin.len es) (fin.len es + 1) (there refl)
+
+set_names : (known : Copies) (d c : ℕ) (k : Kind) (a : List ℕ) (i : ℕ) → IsSome (child_known known d a) → names_known (known_acted (effect.Enter d c k a) known i) ≡ names_known (known i)
+set_names known d c k a i there =
+    set_by (is_among i (d ∷ [])) d c k a (known i) (λ among. subst (λ j. IsSome (child_known known j a)) (eqb-true d i (sym (on_one i d) ∙ among)) there)
+
+-- so a Swap leaves how many there are
+swapped_names : (known : Copies) (d : ℕ) (a : List ℕ) (e : ℕ) (b : List ℕ) (x y : Option (ℕ × Kind)) (i : ℕ) → child_known known d a ≡ x → child_known known e b ≡ y → names_known (known_acted_all (exchanged_entries d a e b x y) known i) ≡ names_known (known i)
+swapped_names known d a e b (Some x) (Some y) i first second =
+    set_names (known_acted (effect.Enter d y.0 y.1 a) known) e x.0 x.1 b i (still_known known d y.0 y.1 a e b (ap is_some second))
+    ∙ set_names known d y.0 y.1 a i (ap is_some first)
+swapped_names known d a e b (Some x) None i first second = refl
+swapped_names known d a e b None y i first second = refl
+
+alone_grows : (e : Effect) (known : Copies) (i : ℕ) → names_known (known_acted e known i) ≤ names_known (known i) + 1
+alone_grows e known i = copy_grows (known i) where
+  copy_grows : (c : Copy) → names_known (option_map (λ v. cond (is_among i (subjects e)) (view_acted e v) v) c) ≤ names_known c + 1
+  copy_grows None = omega arith
+  copy_grows (Some v) = grows_if (is_among i (subjects e)) e v
+
+one_grows : (e : Effect) (known : Copies) (i : ℕ) → names_known (known_after_effect e known i) ≤ names_known (known i) + 1
+one_grows (effect.Swap d a e b) known i =
+    let same = swapped_names known d a e b (child_known known d a) (child_known known e b) i refl refl in
+    subst (λ n. n ≤ names_known (known i) + 1) (sym same) (omega arith)
+one_grows e known i = alone_grows e known i
+
 -- effects enter no more names than they are
-grown : (es : List Effect) (i : ℕ) (v : Option NodeView) → names_of (view_after es i v) ≤ names_of v + length es
-grown [] i v = omega arith
-grown (e ∷ es) i v =
-    let rest : names_of (view_after es i (cond (is_among i (subjects e)) (view_acted e v) v)) ≤ names_of (cond (is_among i (subjects e)) (view_acted e v) v) + length es = grown es i (cond (is_among i (subjects e)) (view_acted e v) v) in
-    let first : names_of (cond (is_among i (subjects e)) (view_acted e v) v) ≤ names_of v + 1 = grows_if (is_among i (subjects e)) e v in
+known_grown : (es : List Effect) (known : Copies) (i : ℕ) → names_known (known_after es known i) ≤ names_known (known i) + length es
+known_grown [] known i = omega arith
+known_grown (e ∷ es) known i =
+    let rest : names_known (known_after es (known_after_effect e known) i) ≤ names_known (known_after_effect e known i) + length es = known_grown es (known_after_effect e known) i in
+    let first : names_known (known_after_effect e known i) ≤ names_known (known i) + 1 = one_grows e known i in
     omega (arith, rest, first)
-
-known_grown : (es : List Effect) (i : ℕ) (c : Copy) → names_known (option_map (view_after es i) c) ≤ names_known c + length es
-known_grown es i None = omega arith
-known_grown es i (Some v) = grown es i v
-
-known_stays : (es : List Effect) (i : ℕ) (c : Copy) → IsSome (option_map (view_after es i) c) → IsSome c
-known_stays es i None there = absurd (cc)
-known_stays es i (Some v) there = refl
 
 -- ---- room behind more is room behind fewer
 
@@ -97,14 +125,15 @@ fewer (effect.Names i k) m n r few room = tt
 fewer (effect.Size i size) m n r few room = tt
 fewer (effect.Bytes i at new) m n r few room = tt
 fewer (effect.Drop i) m n r few room = tt
+fewer (effect.Swap d a e b) m n r few room = tt
 
 -- what was taken for an effect is enough once those before it are done
 pub is_room : (rooms : Rooms) (es : List Effect) (k now : Knowledge) (n : ℕ) (e : Effect) (r : Option EnterRoom) → AreReady rooms es k.copies → n < length es → e ≡ get_or es n e → now ≡ with_effects k (take n es) → r ≡ get_or rooms n None
     → IsSome (now.copies (subject e)) → IsRoomOf e (names_known (now.copies (subject e))) r
 is_room rooms es k now n e r ready inside is so_far taken_is there =
     let copy : now.copies (subject e) ≡ known_after (take n es) k.copies (subject e) = ap (λ (x : Knowledge). x.copies (subject e)) so_far in
-    let known : IsSome (k.copies (subject e)) = known_stays (take n es) (subject e) (k.copies (subject e)) (subst IsSome copy there) in
-    let first = known_grown (take n es) (subject e) (k.copies (subject e)) in
+    let known : IsSome (k.copies (subject e)) = sym (some_after (take n es) k.copies (subject e)) ∙ subst IsSome copy there in
+    let first = known_grown (take n es) k.copies (subject e) in
     let short : length (take n es) ≡ n = length-take-le n es (omega (arith, inside)) in
     let few : names_known (now.copies (subject e)) ≤ names_known (k.copies (subject e)) + n = subst (λ c. names_known c ≤ names_known (k.copies (subject e)) + n) (sym copy) (omega (arith, first, short)) in
     subst (IsRoomOf e (names_known (now.copies (subject e)))) (sym taken_is) (fewer e _ _ (get_or rooms n None) few (ready n e inside is known))
@@ -120,6 +149,7 @@ no_room (effect.Names i k) n c r none there = tt
 no_room (effect.Size i size) n c r none there = tt
 no_room (effect.Bytes i at new) n c r none there = tt
 no_room (effect.Drop i) n c r none there = tt
+no_room (effect.Swap d a e b) n c r none there = tt
 
 none_among : {X : Type 0} (f : X → Bool) (xs : List X) (n : ℕ) (x : X) → list_any f xs ≡ false → n < length xs → x ≡ get_or xs n x → f x ≡ false
 none_among f [] n x none inside is = absurd (omega arith)
@@ -160,35 +190,26 @@ ready_for_all rooms es copies k all ready n e inside = ready n e (omega (arith, 
 
 -- ---- what is known, effect by effect
 
-joined_copy : (es : List Effect) (e : Effect) (i : ℕ) (c : Copy) → option_map (view_after (e ∷ []) i) (option_map (view_after es i) c) ≡ option_map (view_after (es ++ e ∷ []) i) c
-joined_copy es e i None = refl
-joined_copy es e i (Some v) = ap (λ w. Some w) (sym (views_joined es (e ∷ []) i v))
-
-joined : (k : Knowledge) (es : List Effect) (e : Effect) (j : ℕ) → subjects e ≡ j ∷ [] → with_effects (with_effects k es) (e ∷ []) ≡ with_effects k (es ++ e ∷ [])
-joined k es e j alone = λ t. record {
+joined : (k : Knowledge) (es : List Effect) (e : Effect) → with_effects (with_effects k es) (e ∷ []) ≡ with_effects k (es ++ e ∷ [])
+joined k es e = λ t. record {
   client = k.client;
   own = k.own;
-  copies = λ i. joined_copy es e i (k.copies i) t;
+  copies = sym (known_joined es (e ∷ []) k.copies) t;
   blocks = λ i b. gone i b t;
   granted = k.granted;
 }
   where
     gone : (i b : ℕ) → cond (is_among i (touches (e ∷ []))) None (cond (is_among i (touches es)) None (k.blocks i b)) ≡ cond (is_among i (touches (es ++ e ∷ []))) None (k.blocks i b)
     gone i b =
-        ap (λ t. cond t None (cond (is_among i (touches es)) None (k.blocks i b))) (touched_pushed i j [] e alone)
-        ∙ twice (is_among i (touches es)) (i == j) (k.blocks i b)
-        ∙ ap (λ t. cond t None (k.blocks i b)) (sym (touched_pushed i j es e alone))
+        twice (is_among i (touches es)) (is_among i (touches (e ∷ []))) (k.blocks i b)
+        ∙ ap (λ t. cond t None (k.blocks i b)) (sym (touched_joined i es (e ∷ [])))
 
 pub known_none : (k : Knowledge) → k ≡ with_effects k []
-known_none k = λ t. record { client = k.client; own = k.own; copies = λ i. itself (k.copies i) t; blocks = k.blocks; granted = k.granted }
-  where
-    itself : (c : Copy) → c ≡ option_map (λ v. v) c
-    itself None = refl
-    itself (Some v) = refl
+known_none k = refl
 
-pub known_next : (k now new : Knowledge) (es : List Effect) (n : ℕ) (e : Effect) (j : ℕ) → n < length es → e ≡ get_or es n e → subjects e ≡ j ∷ [] → now ≡ with_effects k (take n es) → new ≡ with_effects now (e ∷ []) → new ≡ with_effects k (take (n + 1) es)
-known_next k now new es n e j inside is alone so_far one =
-    one ∙ ap (λ (x : Knowledge). with_effects x (e ∷ [])) so_far ∙ joined k (take n es) e j alone ∙ ap (with_effects k) (sym (taken es n e inside is))
+pub known_next : (k now new : Knowledge) (es : List Effect) (n : ℕ) (e : Effect) → n < length es → e ≡ get_or es n e → now ≡ with_effects k (take n es) → new ≡ with_effects now (e ∷ []) → new ≡ with_effects k (take (n + 1) es)
+known_next k now new es n e inside is so_far one =
+    one ∙ ap (λ (x : Knowledge). with_effects x (e ∷ [])) so_far ∙ joined k (take n es) e ∙ ap (with_effects k) (sym (taken es n e inside is))
 
 pub known_all : (k new : Knowledge) (es : List Effect) (n : ℕ) → length es ≤ n → new ≡ with_effects k (take n es) → new ≡ with_effects k es
 known_all k new es n done is = is ∙ ap (with_effects k) (take_all n es done)

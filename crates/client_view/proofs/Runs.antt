@@ -3,6 +3,7 @@ use Rattle.std.proofs.Common.{◌≡◌, ◌≢◌, ◌<◌, ◌≤◌, ◌⊎�
 use Rattle.std.proofs.lemmas.List.{drop_all, ext_get_or, get_or-set_same, get_or-set_other}
 use Rattle.std.proofs.lemmas.Bool.{cases_lt}
 use Rattle.std.proofs.lemmas.Bool.Decides.{eqb_tells}
+use Rattle.posix_calls.specs.declared.limits.TheConstants.{UNIT_BYTES}
 use Rattle.client_plan.specs.file_graph.declared.effect.Effect.{Effect}
 use Rattle.client_plan.specs.log_record.declared.format.Record.{Record}
 use Rattle.client_plan.specs.call_effects.Blocks.{block_after}
@@ -48,7 +49,7 @@ module _ (es : List Effect) (s : RecordReach) (i first : ℕ) (start : List (Opt
   stays : (k : ℕ) → k < length start → may_change s i (first + k) (block_length (get_or start k None)) ≡ false → get_or start k None ≡ get_or laid k None
   stays k inside out = sym (reaches i (first + k) (get_or start k None) (short k) out) ∙ sym (after_at es i first start k inside)
 
-  pub stays_before : (n to : ℕ) → AreWhole n start → ((k : ℕ) → k < to → (k < n) × (may_change s i (first + k) 4096 ≡ false)) → (k : ℕ) → k < to → k < length start → get_or start k None ≡ get_or laid k None
+  pub stays_before : (n to : ℕ) → AreWhole n start → ((k : ℕ) → k < to → (k < n) × (may_change s i (first + k) UNIT_BYTES ≡ false)) → (k : ℕ) → k < to → k < length start → get_or start k None ≡ get_or laid k None
   stays_before n to whole before k low inside = let out = before k low in stays k inside (ap (may_change s i (first + k)) (whole k out.0) ∙ out.1)
 
   module _ (now : List (Option (List ℕ))) (place : ℕ) (long : length now ≡ length start) (done : (k : ℕ) → k < place → k < length start → get_or now k None ≡ get_or laid k None) (left : (k : ℕ) → place ≤ k → get_or now k None ≡ get_or start k None) where
@@ -80,17 +81,17 @@ module _ (es : List Effect) (s : RecordReach) (i first : ℕ) (start : List (Opt
 
 -- ---- how long its blocks are once one is put
 
-module _ (now : List (Option (List ℕ))) (place : ℕ) (x d : Option (List ℕ)) (len : ℕ) (inside : place < length now) (told : len ≡ block_length (get_or (set now place x) place d)) (within : len ≤ 4096) where
+module _ (now : List (Option (List ℕ))) (place : ℕ) (x d : Option (List ℕ)) (len : ℕ) (inside : place < length now) (told : len ≡ block_length (get_or (set now place x) place d)) (within : len ≤ UNIT_BYTES) where
   here : block_length (get_or (set now place x) place None) ≡ len
   here = ap block_length (get_or-set_same now place x None inside ∙ sym (get_or-set_same now place x d inside)) ∙ sym told
 
   pub short_more : AreShort now → AreShort (set now place x)
   short_more short k = elim (eqb_tells k place) [
     | inl same ↦ let long : block_length (get_or (set now place x) k None) ≡ len = ap (λ n. block_length (get_or (set now place x) n None)) same.1 ∙ here in omega (arith, long, within)
-    | inr other ↦ subst (λ n. n ≤ 4096) (sym (ap block_length (get_or-set_other now place k x None other.1))) (short k)
+    | inr other ↦ subst (λ n. n ≤ UNIT_BYTES) (sym (ap block_length (get_or-set_other now place k x None other.1))) (short k)
   ]
 
-  pub whole_more : (n next : ℕ) → AreWhole n now → ((k : ℕ) → k < next → ((k ≡ place) × (4096 ≤ len)) ⊎ ((k ≢ place) × (k < n))) → AreWhole next (set now place x)
+  pub whole_more : (n next : ℕ) → AreWhole n now → ((k : ℕ) → k < next → ((k ≡ place) × (UNIT_BYTES ≤ len)) ⊎ ((k ≢ place) × (k < n))) → AreWhole next (set now place x)
   whole_more n next whole all k low = elim (all k low) [
     | inl at ↦ let long : block_length (get_or (set now place x) k None) ≡ len = ap (λ m. block_length (get_or (set now place x) m None)) at.0 ∙ here in omega (arith, long, within, at.1)
     | inr at ↦ ap block_length (get_or-set_other now place k x None at.0) ∙ whole k at.1

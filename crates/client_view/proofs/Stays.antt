@@ -18,7 +18,7 @@ use Rattle.client_view.specs.Preparation.{AreReady, IsPreparedFor, IsRoomOf, nam
 use Rattle.client_view.specs.declared.enter_room.EnterRoom.{EnterRoom}
 use Rattle.client_view.specs.declared.own_change.OwnChange.{OwnChange}
 use Rattle.client_view.proofs.LeftBlocks.{touched_at}
-use Rattle.client_view.proofs.Untouched.{alone}
+use Rattle.client_view.proofs.Untouched.{subject_among}
 
 there : {X : Type 0} (o : Option X) → IsSome o → (x : X) × (o ≡ Some x)
 there None some = absurd (cc)
@@ -43,7 +43,7 @@ module _ (k more : Knowledge) (h : Holdings) (call : Call) (reply : Reply) (c : 
       ap (λ b. cond b (Some None) (k.copies i)) is ∙ sym (ap (λ b. cond b (Some None) (more.copies i)) is)
 
   same_subject : (n : ℕ) (e : Effect) → n < length c.logged.effects → e ≡ get_or c.logged.effects n e → (with_made k c.made).copies (subject e) ≡ (with_made more c.made).copies (subject e)
-  same_subject n e inside is = same_copy (subject e) (ready.known (subject e) (touched_at c.logged.effects n e (subject e) inside is (alone e)))
+  same_subject n e inside is = same_copy (subject e) (ready.known (subject e) (touched_at c.logged.effects n e (subject e) inside is (subject_among e)))
 
   pub still_prepared : IsPreparedFor k c → IsPreparedFor more c
   still_prepared was = record {

@@ -3,10 +3,10 @@ use Rattle.std.specs.Prelude.{ℕ, ◌==◌, ◌&&◌, not, List, Bool, false, O
 use Rattle.client_plan.specs.file_graph.Graph.{is_among, touches}
 use Rattle.client_plan.specs.file_graph.declared.effect.Effect.{Effect}
 use Rattle.client_plan.specs.call_effects.Knowledge.{Knowledge, with_copy}
+use Rattle.client_plan.specs.call_effects.KnownCopies.{known_after}
 use Rattle.client_plan.specs.call_effects.NodeView.{NodeView}
 use Rattle.client_plan.specs.declared.outcome.DescriptorChange.{DescriptorChange}
 use Rattle.client_plan.specs.CallPlan.{own_changed}
-use Rattle.record_validation.specs.KnownNodes.{known_after}
 use Rattle.std.specs.List.{filter}
 use Rattle.block_cache.specs.CacheList.{Block}
 use Rattle.client_view.specs.KnowledgeChanges.{without_blocks}

@@ -44,6 +44,7 @@ IsRoomOf (effect.Names i n) count r = ⊤
 IsRoomOf (effect.Size i size) count r = ⊤
 IsRoomOf (effect.Bytes i at new) count r = ⊤
 IsRoomOf (effect.Drop i) count r = ⊤
+IsRoomOf (effect.Swap d a e b) count r = ⊤
 
 -- what effects need over these copies is ready, for each at its place among them: those before it may each have entered a name
 abbrev pub AreReady : List (Option EnterRoom) → List Effect → (ℕ → Option (Option NodeView)) → Type 0

@@ -54,7 +54,11 @@ fn take_effect(
 fn is_on(effect: &Effect, inode: u32) -> bool
     ensures { result ≡ is_among inode (subjects effect.now) }
 {
-    effect.subject() == inode
+    let (first, second) = effect.subjects();
+    match second {
+        None => first == inode,
+        Some(other) => first == inode || other == inode,
+    }
 }
 
 // What an effect on a file makes of one of its blocks.
@@ -72,6 +76,7 @@ fn act(effect: &Effect, block: u32, buffer: &mut [u8], len: Option<usize>) -> Op
         Effect::Size { size, .. } => resize_known(buffer, len, *size, block),
         Effect::Bytes { at, bytes, .. } => write_known(buffer, len, *at, bytes.as_slice(), block),
         Effect::Drop { .. } => None,
+        Effect::Swap { .. } => len,
     }
 }
 

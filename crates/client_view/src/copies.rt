@@ -1,4 +1,4 @@
-ghost use Rattle.std.specs.Prelude.{◌≡◌, ◌==◌, ◌<◌, ◌+◌, ◌^◌, ℕ, length, Some, None, IsSome, is_some, not, true, false, IfOk, OnOk, OnErr};
+ghost use Rattle.std.specs.Prelude.{◌≡◌, ◌==◌, ◌<◌, ◌+◌, ◌^◌, ◌∷◌, [], ℕ, length, Some, None, IsSome, is_some, not, true, false, IfOk, OnOk, OnErr};
 ghost use Rattle.std.specs.List.{filter};
 ghost use Rattle.block_cache.specs.CacheList.{put_block as put_first, used_run, without_file};
 ghost use Rattle.block_cache.specs.declared.bytes.TheConstants.{BLOCK_SIZE};
@@ -35,7 +35,8 @@ pub struct ClientCopies {
 }
 
 impl Model for ClientCopies {
-    ghost use Rattle.std.specs.Prelude.{◌≡◌, length};
+    ghost use Rattle.std.specs.Prelude.{◌≡◌, ◌+◌, length};
+    ghost use Rattle.posix_calls.specs.declared.limits.TheConstants.{MAX_INODE};
     ghost use Rattle.client_view.specs.KnowledgeTables.{Held, held_code};
 
     ghost Value = { Held };
@@ -44,7 +45,7 @@ impl Model for ClientCopies {
 
     ghost view = { λ c. record { client = c.client; own = c.own; copies = c.copies.items; blocks = c.blocks; numbers = c.numbers.items } };
 
-    ghost invariant = { λ c. length c.copies.items ≡ 1025 };
+    ghost invariant = { λ c. length c.copies.items ≡ MAX_INODE + 1 };
 }
 
 impl ClientCopies {
@@ -129,9 +130,7 @@ impl ClientCopies {
         ensures order { self.new.blocks ≡ without_touched self.old.blocks effects.now }
         ensures rest { self.new ≡ record self.old { blocks = self.new.blocks } }
     {
-        for effect in effects {
-            self.forget_blocks(effect.subject());
-        }
+        drop_touched(&mut self.blocks, effects);
     }
 
     /// These numbers are granted, in place of those that were. It takes no memory.
@@ -192,6 +191,26 @@ impl ClientCopies {
         ensures granted { (i : ℕ) → is_among i result.now ≡ (knows self.now).granted i }
     {
         &self.numbers
+    }
+}
+
+/// The blocks of an effect's inodes go, one or two, and no others.
+pub fn drop_subjects(blocks: &mut Blocks, effect: &Effect)
+    ensures { blocks.new ≡ without_touched blocks.old (effect.now ∷ []) }
+{
+    let (first, second) = effect.subjects();
+    blocks.drop_file(first);
+    if let Some(other) = second {
+        blocks.drop_file(other);
+    }
+}
+
+// The blocks of what effects touch go, and no others.
+fn drop_touched(blocks: &mut Blocks, effects: &[Effect])
+    ensures { blocks.new ≡ without_touched blocks.old effects.now }
+{
+    for effect in effects {
+        drop_subjects(blocks, effect);
     }
 }
 

@@ -41,7 +41,8 @@ fn any_enters(slots: &[Slot], made: Option<u32>, effects: &[Effect]) -> bool
 fn enters(slots: &[Slot], made: Option<u32>, effect: &Effect) -> bool
     ensures { result ≡ enters effect.now (λ j. if is_made made j then Some None else copy_at slots.now j) }
 {
-    is_enter(effect) && is_known(slots, made, effect.subject())
+    let (inode, _) = effect.subjects();
+    is_enter(effect) && is_known(slots, made, inode)
 }
 
 fn is_known(slots: &[Slot], made: Option<u32>, inode: u32) -> bool
@@ -61,7 +62,8 @@ fn room_for_each(
 {
     let mut rooms = Vec::new(alloc);
     for effect in effects {
-        let known = names_at(slots, made, effect.subject());
+        let (inode, _) = effect.subjects();
+        let known = names_at(slots, made, inode);
         let room = room_for(alloc, effect, known as u64 + rooms.len() as u64)?;
         rooms.push(room)?;
     }

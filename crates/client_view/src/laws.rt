@@ -12,7 +12,7 @@ ghost use Rattle.client_plan.specs.file_graph.declared.effect.Effect.{Effect};
 ghost use Rattle.client_plan.specs.file_graph.Numbers.{is_inode};
 ghost use Rattle.client_plan.specs.log_record.Grammar.{IsRecord};
 ghost use Rattle.client_plan.specs.log_record.declared.format.Record.{Record};
-ghost use Rattle.client_plan.specs.call_effects.Knowledge.{Knowledge, Agrees, IsForgetful, knows_after, knows_made, part_of};
+ghost use Rattle.client_plan.specs.call_effects.Knowledge.{Knowledge, Agrees, IsForgetful, IsPlanned, knows_after, knows_made, part_of};
 ghost use Rattle.client_plan.specs.call_effects.NodeView.{NodeView};
 ghost use Rattle.client_plan.specs.call_effects.Wholes.{IsSound};
 ghost use Rattle.client_plan.specs.declared.outcome.DescriptorChange.{DescriptorChange};
@@ -50,10 +50,10 @@ pub fn prepared_change_stays()
 {}
 
 /// What a client knows once its change is committed is what it knows after the operation's effects, with a copy of the node that is made, less
-/// some blocks.
+/// some blocks: where one is made, after the effects that the client planned by what it knew.
 pub fn committed_change_adds_no_more_than_the_effects()
     ensures none { (k : Knowledge) (new : ℕ) (operation : Operation) (es : List Effect) → makes operation ≡ false → IsForgetful (knows_after k new operation es) (knows_logged k es (made_by new operation) (change_of new operation)) }
-    ensures made { (k : Knowledge) (new : ℕ) (operation : Operation) (es : List Effect) → makes operation ≡ true → IsForgetful (knows_made k new operation es) (knows_logged k es (made_by new operation) (change_of new operation)) }
+    ensures made { (k : Knowledge) (call : Call) (new : ℕ) (operation : Operation) (es : List Effect) → IsPlanned k call new operation es → makes operation ≡ true → IsForgetful (knows_made k new operation es) (knows_logged k es (made_by new operation) (change_of new operation)) }
 {}
 
 /// What a client knows once its change is committed agrees with the whole after the record's effects, where what it knew before agreed with

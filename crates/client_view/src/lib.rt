@@ -37,6 +37,7 @@ mod own_record_laws;
 mod own_records;
 mod record_commit;
 mod record_reach;
+mod slot_effects;
 mod slots;
 
 pub use copies::ClientCopies;

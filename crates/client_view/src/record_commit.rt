@@ -10,11 +10,11 @@ ghost use Rattle.client_view.specs.KnowledgeTables.{knows};
 ghost use Rattle.client_view.specs.AfterRecord.{knows_logged, with_change, with_effects, with_made, without_made, without_touched};
 ghost use Rattle.client_view.specs.Preparation.{AreReady, IsPreparedFor, IsRoomOf, any_enters, names_known};
 
-use crate::copies::ClientCopies;
+use crate::copies::{ClientCopies, drop_subjects};
 use crate::enter_room::EnterRoom;
 use crate::enter_rooms::rooms_for;
-use crate::in_place::act_on;
 use crate::own_change::OwnChange;
+use crate::slot_effects::do_effect;
 use client_plan::DescriptorChange;
 use client_plan::in_file_graph::Effect;
 use client_plan::in_log_record::Record;
@@ -102,16 +102,15 @@ impl ClientCopies {
         }
     }
 
-    // What is known of an effect's inode is as the effect leaves it, without moving it, and no block of it stays.
+    // What is known of an effect's inodes is as the effect leaves it, without moving it, and no block of them stays.
     fn act_in_place(&mut self, effect: &Effect, room: Option<EnterRoom>)
         requires fits { FitsLimits effect.now }
         requires room { IsSome ((knows self.old).copies (subject effect.now)) → IsRoomOf effect.now (names_known ((knows self.old).copies (subject effect.now))) room }
         ensures known { knows self.new ≡ with_effects (knows self.old) (effect.now ∷ []) }
         ensures order { self.new.blocks ≡ without_touched self.old.blocks (effect.now ∷ []) }
     {
-        let inode = effect.subject();
-        act_on(self.alloc, &mut self.copies[inode as usize], effect, room);
-        self.blocks.drop_file(inode);
+        do_effect(self.alloc, &mut self.copies, effect, room);
+        drop_subjects(&mut self.blocks, effect);
     }
 }
 

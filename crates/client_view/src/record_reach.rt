@@ -100,7 +100,7 @@ fn reach_of(effect: &Effect) -> RecordReach
             end: *at + bytes.as_slice().len() as u64,
         },
         _ => RecordReach::OneInode {
-            inode: effect.subject(),
+            inode: effect.subjects().0,
         },
     }
 }

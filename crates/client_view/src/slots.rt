@@ -1,6 +1,7 @@
 // The copies of a client, by their inodes.
-ghost use Rattle.std.specs.Prelude.{◌≡◌, ◌==◌, ◌&&◌, ℕ, false, Some, None, IfOk, length, if◌then◌else◌, option_map, unwrap_or};
+ghost use Rattle.std.specs.Prelude.{◌≡◌, ◌==◌, ◌&&◌, ◌+◌, ℕ, false, Some, None, IfOk, length, if◌then◌else◌, option_map, unwrap_or};
 ghost use Rattle.std.specs.List.{list_any};
+ghost use Rattle.posix_calls.specs.declared.limits.TheConstants.{MAX_INODE};
 ghost use Rattle.client_plan.specs.file_graph.declared.effect.Kind.TheVariants as kinds;
 ghost use Rattle.client_plan.specs.call_effects.Knowledge.{same_kind, lists_as, is_dir_by};
 ghost use Rattle.client_view.specs.KnowledgeTables.{copy_at, size_known, is_listed_in};
@@ -23,7 +24,7 @@ struct NamedKinds {
 /// A slot for 0 and one for each inode, of which nothing is known.
 pub fn unknown_slots(alloc: Global) -> Result<Vec<Slot>, AllocError>
     ensures unknown { IfOk result (λ slots. (i : ℕ) → copy_at slots.items i ≡ None) }
-    ensures all { IfOk result (λ slots. length slots.items ≡ 1025) }
+    ensures all { IfOk result (λ slots. length slots.items ≡ MAX_INODE + 1) }
 {
     let most = MAX_INODE as usize + 1;
     let mut slots = Vec::with_capacity(alloc, most)?;

@@ -22,7 +22,7 @@ next_after g es i e lt is =
 
 -- ---- entries
 
-places_joined : (es fs : List Effect) → swap_places (es ++ fs) ≡ swap_places es ++ swap_places fs
+pub places_joined : (es fs : List Effect) → swap_places (es ++ fs) ≡ swap_places es ++ swap_places fs
 places_joined [] fs = refl
 places_joined (effect.Make i k ∷ es) fs = places_joined es fs
 places_joined (effect.Enter d i k name ∷ es) fs = places_joined es fs

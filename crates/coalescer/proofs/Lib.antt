@@ -1,6 +1,6 @@
 mod Counted
 mod Counts
-mod Entered
+pub mod Entered
 pub mod Folds
 pub mod Images
 mod KeptNames

@@ -14,11 +14,11 @@ use Rattle.std.proofs.lemmas.List.Folds.{list_any-append}
 use Rattle.std.proofs.lemmas.Map.Made.{length-le_from_is_member}
 use Rattle.graph_change.specs.file_graph.declared.effect.Effect.{Effect}
 use Rattle.graph_change.specs.file_graph.declared.effect.Effect.TheVariants as effect
-use Rattle.graph_change.specs.file_graph.Graph.{Graph, child_at, subjects, touches, swap_places, entered_if, entered_places}
+use Rattle.graph_change.specs.file_graph.Graph.{Graph, after_effects, child_at, is_among, subjects, touches, swap_places, entered_if, entered_places}
 use Rattle.graph_change.specs.file_graph.Plain.{is_swap}
 use Rattle.graph_change.specs.Net.{Child}
 use Rattle.graph_change.specs.Change.{Changes, subject, change_at, with_effects, coalesced_changes, writes_block, changes_inode, changes_block}
-use Rattle.graph_change.specs.Swaps.{kept_names, on_names}
+use Rattle.graph_change.specs.Swaps.{kept_names, on_names, swapped_sum, told_change}
 use Rattle.graph_change.proofs.SwapNames.{places_are}
 use Rattle.graph_change.proofs.Touched.{coalesces, with_blocks, with_has}
 use Rattle.coalescer.specs.Weight.{blocks}
@@ -121,6 +121,12 @@ keys_touched es h ps are i has =
       | inl old ↦ subject_touched es i (sym ((coalesces es).inodes i) ∙ old)
       | inr new ↦ are i (entered_on h ps i new)
     ]
+
+-- an inode of the change of effects on a graph is one that they touch
+pub told_touched : (g : Graph) (es : List Effect) (i : ℕ) → fin.contains_key (told_change g (swapped_sum es)) i ≡ true → is_among i (touches es) ≡ true
+told_touched g es i has =
+    same_any (λ k. k == i) (nat_eq i) (λ k. nat_eq_equiv.symm k i) (touches es)
+    ∙ keys_touched es (after_effects g (kept_names es)) (swap_places (kept_names es)) (kept_swapped es).touched i has
 
 pub inodes_told : (es : List Effect) (h : Graph) (ps : List Place) → AreSwapped es ps → fin.len (with_places es h ps) ≤ distinct_count nat_eq (touches es)
 inodes_told es h ps are =

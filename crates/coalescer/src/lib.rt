@@ -29,6 +29,11 @@ pub use run::longest_run;
 pub use run_change::RunChange;
 pub use weight::{CHUNK_BLOCKS, CHUNK_IMAGES, DATA_WEIGHT, ENTRY_WEIGHT};
 
+/// Of `file_graph`, what the crates above name.
+pub mod in_file_graph {
+    pub use graph_change::in_file_graph::PlainGraph;
+}
+
 /// Of `graph_change`, what the crates above name.
 pub mod in_graph_change {
     pub use graph_change::{GraphChange, changes_are_the_effects, changes_keep_to_the_limits};

@@ -1,16 +1,16 @@
 -- Questions one after the other: none is asked after twice, since what was told is known.
-use Rattle.std.proofs.Common.{◌≡◌, ◌<◌, ◌⊎◌, inl, inr, ℕ, zero, suc, ◌||◌, Bool, true, false, cond, not, List, [], ◌∷◌, ◌++◌, length, take, get_or, Option, Some, None, refl, ap, sym, ◌∙◌, arith}
-use Rattle.std.specs.Prelude.{is_some, option_map}
+use Rattle.std.proofs.Common.{◌≡◌, ◌<◌, inl, inr, ℕ, zero, suc, ◌||◌, true, false, cond, not, List, [], ◌∷◌, ◌++◌, length, get_or, Option, Some, None, refl, ap, sym, ◌∙◌, arith}
+use Rattle.std.specs.Prelude.{is_some}
 use Rattle.std.specs.Ordering.{nat_cmp}
 use Rattle.std.specs.BTreeMap.{get}
-use Rattle.std.proofs.Math.Seq.{take-nil}
 use Rattle.std.specs.List.{AllByRecursion}
 use Rattle.std.proofs.lemmas.Bool.{true≢false}
 use Rattle.std.proofs.lemmas.Bool.Decides.{eqb_tells}
 use Rattle.update_log.specs.file_graph.declared.effect.Effect.{Effect}
 use Rattle.update_log.specs.file_graph.Graph.{is_among, subjects, touches}
 use Rattle.update_log.specs.log_record.declared.format.Record.{Record}
-use Rattle.shared_area.specs.call_effects.NodeView.{NodeView, view_after}
+use Rattle.shared_area.specs.call_effects.NodeView.{NodeView}
+use Rattle.shared_area.proofs.call_effects_lemmas.KnownCopies.{some_after}
 use Rattle.coalescer.specs.Records.{effects_in}
 use Rattle.shared_area.specs.record_validation.KnownNodes.{Known, is_unknown}
 use Rattle.shared_area.specs.record_validation.Row.{known_by, with_known}
@@ -18,15 +18,15 @@ use Rattle.shared_area.specs.record_validation.declared.verdict.Verdict.{Verdict
 use Rattle.shared_area.specs.record_validation.declared.verdict.Verdict.TheVariants as verdict
 use Rattle.digester.specs.Questions.{AreAmong, AskedKnown, AskedOnce}
 use Rattle.digester.proofs.Covered.{touched_first, touched_later}
-use Rattle.digester.proofs.Known.{among_first, among_joined, or_of, touches_joined}
+use Rattle.digester.proofs.Known.{among_joined, either_of, or_of}
 
 -- ---- what is touched
 
--- the inode of the effect at a place
-pub touched_at : (es : List Effect) (k : ℕ) (e : Effect) (d : ℕ) → k < length es → e ≡ get_or es k e → subjects e ≡ d ∷ [] → is_among d (touches es) ≡ true
-touched_at [] k e d inside is one = absurd (omega (arith, inside))
-touched_at (x ∷ es) zero e d inside is one = ap (λ ds. is_among d (ds ++ touches es)) (ap subjects (sym is) ∙ one) ∙ among_first d (touches es)
-touched_at (x ∷ es) (suc k) e d inside is one = among_joined d (subjects x) (touches es) ∙ or_of (is_among d (subjects x)) (is_among d (touches es)) (touched_at es k e d (omega (arith, inside)) is one)
+-- the inodes of the effect at a place
+pub touched_at : (es : List Effect) (k : ℕ) (e : Effect) → k < length es → e ≡ get_or es k e → AreAmong (subjects e) (touches es)
+touched_at [] k e inside is i among = absurd (omega (arith, inside))
+touched_at (x ∷ es) zero e inside is i among = among_joined i (subjects x) (touches es) ∙ either_of (is_among i (subjects x)) (is_among i (touches es)) (ap (λ (y : Effect). is_among i (subjects y)) (sym is) ∙ among)
+touched_at (x ∷ es) (suc k) e inside is i among = among_joined i (subjects x) (touches es) ∙ or_of (is_among i (subjects x)) (is_among i (touches es)) (touched_at es k e (omega (arith, inside)) is i among)
 
 -- those of the record at a place
 pub touched_in : (rs : List Record) (k : ℕ) (r : Record) → k < length rs → r ≡ get_or rs k r → AreAmong (touches r.effects) (touches (effects_in rs))
@@ -36,12 +36,8 @@ touched_in (x ∷ rs) (suc k) r inside is i among = touched_later x rs i (touche
 
 -- ---- what is known
 
-map_some : (f : Option NodeView → Option NodeView) (o : Option (Option NodeView)) → is_some (option_map f o) ≡ is_some o
-map_some f None = refl
-map_some f (Some v) = refl
-
 still_some : (v : Verdict) (r : Record) (known : ℕ → Option (Option NodeView)) (i : ℕ) → is_some (known_by v r known i) ≡ is_some (known i)
-still_some (verdict.Good units) r known i = map_some (view_after r.effects i) (known i)
+still_some (verdict.Good units) r known i = some_after r.effects known i
 still_some verdict.Bad r known i = refl
 still_some (verdict.Unknown asked) r known i = refl
 

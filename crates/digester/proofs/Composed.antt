@@ -13,8 +13,8 @@ use Rattle.tier_device.specs.Media.{Rose}
 use Rattle.tier_device.specs.AfterStop.{Left}
 use Rattle.posix_calls.specs.Operations.{is_client}
 use Rattle.coalescer.specs.graph_change.Change.{Changes, changed_graph}
-use Rattle.coalescer.proofs.graph_change_lemmas.Law.{coalesced_law}
-use Rattle.coalescer.specs.graph_change.View.{changes_of}
+use Rattle.coalescer.proofs.graph_change_lemmas.SwapNames.{sum_is}
+use Rattle.coalescer.specs.RunChange.{swapped_of}
 use Rattle.shared_area.specs.layout.declared.marks.Mark.{Mark}
 use Rattle.shared_area.specs.layout.declared.marks.Marks.{Marks}
 use Rattle.shared_area.specs.layout.declared.marks.TheConstants.{CLIENTS}
@@ -39,7 +39,7 @@ use Rattle.shared_area.specs.GraphUpdate.{StaysOrChanges, AppliesOrStays}
 use Rattle.digester.specs.Plan.{AreGood, Finds, IsFirstBad, IsNextRun}
 use Rattle.digester.specs.declared.record_test.Found.{Found}
 use Rattle.digester.proofs.PlanRuns.{place as bad_place}
-use Rattle.digester.specs.Chunk.{IsChunkOf, is_next}
+use Rattle.digester.specs.Chunk.{IsChunkOf, chunk_change, is_next}
 use Rattle.digester.specs.DigestStep.{IsGoodRun, IsDigested, NamesFirstBad, StaysOrDigests, DigestsOrStays}
 use Rattle.digester.specs.Errors.{IsDigestError}
 use Rattle.digester.specs.MarkMoves.{mark_after, marks_after}
@@ -62,8 +62,8 @@ module _ (x : SealedView) (c : Chunk) (sealed : IsSealed x) (some : HasUndigeste
   pub begins : c.first ≡ x.done
   begins = eqb-true c.first x.done (and_parts (c.client == x.client && c.generation == x.generation) (c.first == x.done) next).1
 
-  pub its_run : IsNextRun (undone x) c.count (changes_of c.change)
-  its_run = subst (λ (k : ℕ). IsNextRun (drop k x.records) c.count (changes_of c.change)) begins is.run
+  pub its_run : IsNextRun (undone x) c.count (swapped_of c.change)
+  its_run = subst (λ (k : ℕ). IsNextRun (drop k x.records) c.count (swapped_of c.change)) begins is.run
 
   -- no more than there are
   pub its_end : x.done + c.count ≤ length x.records
@@ -87,22 +87,22 @@ module _ (x : SealedView) (c : Chunk) (sealed : IsSealed x) (some : HasUndigeste
   its_spelled = all_taken IsRecord c.count (undone x) (all_dropped IsRecord x.done x.records sealed.spelled)
 
   module _ (g : Sizes) (s : Store) where
-    -- where they are good, they are such a run
-    pub its_good_run : AreGood x.held g.units (graph g s) (take c.count (undone x)) → IsGoodRun x.held g.units (graph g s) (take c.count (undone x)) (changes_of c.change)
-    its_good_run good =
-        good_run x.held g.units (graph g s) (undone x) c.count (changes_of c.change) (let long = length-drop x.done x.records in omega (arith, long, some))
-        (all_dropped IsRecord x.done x.records sealed.spelled) its_run good
+    -- where they are good and their change was told, they are such a run
+    pub its_good_run : (cs : Changes) → cs ≡ chunk_change (graph g s) c → AreGood x.held g.units (graph g s) (take c.count (undone x)) → IsGoodRun x.held g.units (graph g s) (take c.count (undone x)) cs
+    its_good_run cs told good =
+        good_run x.held g.units (graph g s) (undone x) c.count (swapped_of c.change) cs (let long = length-drop x.done x.records in omega (arith, long, some))
+        (all_dropped IsRecord x.done x.records sealed.spelled) its_run good told
 
     -- the change of a good run is made, with the mark behind it
-    pub digested : AreGood x.held g.units (graph g s) (take c.count (undone x)) → (v : Marks) (new : Store) → marks s ≡ Some v → StandsAt x v
-        → IsAppliedStore g s (changes_of c.change) (marks_after v x.client (mark_then x c.count)) new → IsDigested g s x c.count new
-    digested good v new was stood applied =
+    pub digested : (cs : Changes) → cs ≡ chunk_change (graph g s) c → AreGood x.held g.units (graph g s) (take c.count (undone x)) → (v : Marks) (new : Store) → marks s ≡ Some v → StandsAt x v
+        → IsAppliedStore g s cs (marks_after v x.client (mark_then x c.count)) new → IsDigested g s x c.count new
+    digested cs told good v new was stood applied =
         let rs = take c.count (undone x) in
-        let run = its_good_run good in
+        let run = its_good_run cs told good in
         record {
           run = its_run.run;
           good = good;
-          graph_after = applied.graph_after ∙ ap (λ (d : Changes). changed_graph d (graph g s)) run.change ∙ coalesced_law (effects_in rs) (graph g s);
+          graph_after = applied.graph_after ∙ ap (λ (d : Changes). changed_graph d (graph g s)) run.change ∙ sum_is (effects_in rs) (graph g s);
           before = v;
           old_marks = was;
           stood = stood;
@@ -222,22 +222,22 @@ fault_told area.Memory r told is = cc
 
 module _ {M : Type 0} (device : Ghosts M) where
   -- the change behind a test, with the mark behind it
-  module _ {P : Type 0} (x : SealedView) (c : Chunk) (sealed : IsSealed x) (some : HasUndigested x) (is : IsChunkOf x c) (next : is_next x c ≡ true) (old mid : JournalView M) (p : P) (m : Mark) (looks : Looks device old mid (Ok p))
+  module _ {P : Type 0} (x : SealedView) (c : Chunk) (sealed : IsSealed x) (some : HasUndigested x) (is : IsChunkOf x c) (next : is_next x c ≡ true) (old mid : JournalView M) (p : P) (cs : Changes) (told : cs ≡ chunk_change (graph old.geometry (disk device old)) c) (m : Mark) (looks : Looks device old mid (Ok p))
       (at : StandsAtMark x (disk device old)) (good : AreGood x.held old.geometry.units (graph old.geometry (disk device old)) (take c.count (undone x))) (moved : m ≡ mark_then x c.count) where
-    its_digest : (v : Marks) (new : Store) → marks (disk device old) ≡ Some v → IsAppliedStore old.geometry (disk device old) (changes_of c.change) (marks_after v x.client m) new → IsDigested old.geometry (disk device old) x c.count new
+    its_digest : (v : Marks) (new : Store) → marks (disk device old) ≡ Some v → IsAppliedStore old.geometry (disk device old) cs (marks_after v x.client m) new → IsDigested old.geometry (disk device old) x c.count new
     its_digest v new was applied =
         let s : Store = disk device old in
-        digested x c sealed some is next old.geometry s good v new was (stood_at x s v was at) (subst (λ (k : Mark). IsAppliedStore old.geometry s (changes_of c.change) (marks_after v x.client k) new) moved applied)
+        digested x c sealed some is next old.geometry s cs told good v new was (stood_at x s v was at) (subst (λ (k : Mark). IsAppliedStore old.geometry s cs (marks_after v x.client k) new) moved applied)
 
     -- what the change with the mark of this client has made
     abbrev Made : Store → ℕ → Type 0
-    Made new client = (v : Marks) × (marks (disk device mid) ≡ Some v) × IsAppliedStore mid.geometry (disk device mid) (changes_of c.change) (marks_after v client m) new
+    Made new client = (v : Marks) × (marks (disk device mid) ≡ Some v) × IsAppliedStore mid.geometry (disk device mid) cs (marks_after v client m) new
 
     pub digested_at : (client : ℕ) (new : Store) → client ≡ x.client → Made new client → IsDigested old.geometry (disk device old) x c.count new
     digested_at client new own by =
         let made = subst (Made new) own by in
         its_digest made.0 new (carried_back device (λ h s. marks s ≡ Some made.0) old mid (Ok p) looks made.1)
-        (carried_back device (λ h s. IsAppliedStore h s (changes_of c.change) (marks_after made.0 x.client m) new) old mid (Ok p) looks made.2)
+        (carried_back device (λ h s. IsAppliedStore h s cs (marks_after made.0 x.client m) new) old mid (Ok p) looks made.2)
 
     -- the log stands at the mark again
     abbrev Fits : ℕ → Type 0
@@ -252,7 +252,7 @@ module _ {M : Type 0} (device : Ghosts M) where
         (subst (λ (v : Marks). fits_marks (marks_after v x.client m) ≡ true) same fit.2) made.2.new_marks
 
     abbrev ChangesBy : ℕ → (ℕ → Tier → List ℕ → Type 0) → ℕ → Type 0
-    ChangesBy now new client = (v : Marks) × (marks (disk device mid) ≡ Some v) × StaysOrChanges mid.geometry (disk device mid) (changes_of c.change) (marks_after v client m) (device.moment mid.media) now (device.left mid.media) new
+    ChangesBy now new client = (v : Marks) × (marks (disk device mid) ≡ Some v) × StaysOrChanges mid.geometry (disk device mid) cs (marks_after v client m) (device.moment mid.media) now (device.left mid.media) new
 
     pub digests_at : (client now : ℕ) (new : ℕ → Tier → List ℕ → Type 0) → client ≡ x.client → ChangesBy now new client → StaysOrDigests old.geometry (disk device old) x c.count (device.moment old.media) now (device.left old.media) new
     digests_at client now new own by =
@@ -261,9 +261,9 @@ module _ {M : Type 0} (device : Ghosts M) where
         let s : Store = disk device old in
         let v = changes.0 in
         let was = carried_back device (λ h t. marks t ≡ Some v) old mid (Ok p) looks changes.1 in
-        digests_open x g s c.count (device.moment old.media) (device.left old.media) (device.moment mid.media) now (device.seen old.media) (device.seen mid.media) (device.left mid.media) new (changes_of c.change) v m looks.unmoved
+        digests_open x g s c.count (device.moment old.media) (device.left old.media) (device.moment mid.media) now (device.seen old.media) (device.seen mid.media) (device.left mid.media) new cs v m looks.unmoved
         (λ store applied. its_digest v store was applied)
-        (carried_back device (λ h t. StaysOrChanges h t (changes_of c.change) (marks_after v x.client m) (device.moment mid.media) now (device.left mid.media) new) old mid (Ok p) looks changes.2)
+        (carried_back device (λ h t. StaysOrChanges h t cs (marks_after v x.client m) (device.moment mid.media) now (device.left mid.media) new) old mid (Ok p) looks changes.2)
 
   -- the test was refused
   pub test_refused : {P T : Type 0} (old new : JournalView M) (e : AreaError) (r : DigestError) → Looks {T = P} device old new (Err e) → IsDigestError e r → DigestsOrStays {T = T} device old new (Err r)

@@ -1,20 +1,28 @@
 -- Records that are covered in one graph are so in each that has the same at what they touch, and are good where there are the units.
-use Rattle.std.proofs.Common.{◌≡◌, ℕ, zero, suc, ◌+◌, ◌≤◌, ◌||◌, Bool, true, false, List, [], ◌∷◌, take, refl, ap, sym, ◌∙◌, subst, arith}
+use Rattle.std.proofs.Common.{◌≡◌, ℕ, zero, suc, ◌+◌, ◌-◌, ◌≤◌, ◌==◌, ◌||◌, Bool, true, false, List, [], ◌∷◌, Option, Some, None, take, refl, ap, sym, ◌∙◌, subst, arith}
+use Rattle.std.specs.Prelude.{option_map, if◌then◌else◌}
+use Rattle.std.specs.List.{AllByRecursion}
 use Rattle.std.proofs.Math.Seq.{take-nil}
 use Rattle.update_log.specs.file_graph.declared.effect.Effect.{Effect}
 use Rattle.update_log.specs.file_graph.Graph.{Graph, after_effects, touches, is_among}
 use Rattle.update_log.specs.file_graph.Units.{charge, growth}
 use Rattle.update_log.proofs.file_graph_lemmas.Touches.{charge_rises}
 use Rattle.update_log.specs.log_record.declared.format.Record.{Record}
-use Rattle.shared_area.specs.call_effects.NodeView.{view_at}
-use Rattle.shared_area.proofs.call_effects_lemmas.NodeViews.{viewed_after}
+use Rattle.update_log.specs.log_record.Grammar.{FitsLimits}
+use Rattle.shared_area.specs.call_effects.NodeView.{NodeView, FileView, DirView, view_at, view_after}
 use Rattle.coalescer.specs.Records.{effects_in}
+use Rattle.posix_calls.specs.declared.limits.TheConstants.{MAX_ENTRIES, MAX_FILE, MAX_NAMES}
+use Rattle.shared_area.specs.record_validation.Counts.{counts_after, counts_cost, counts_of}
 use Rattle.shared_area.specs.record_validation.Good.{KeepsLimits}
+use Rattle.shared_area.specs.record_validation.Rises.{sum_distinct, view_rise}
+use Rattle.shared_area.specs.record_validation.declared.node_counts.NodeCounts.{NodeCounts}
+use Rattle.shared_area.specs.record_validation.declared.node_counts.NodeCounts.TheVariants as counts
+use Rattle.shared_area.proofs.record_validation_lemmas.Alike.{AreAlike, alike_after, counts_seen}
 use Rattle.shared_area.proofs.record_validation_lemmas.Rises.{growth_told}
 use Rattle.digester.specs.RecordCover.{IsCovered, AreCovered, AreSameAt, units_of}
 use Rattle.digester.specs.Plan.{AreGood, Finds}
 use Rattle.digester.specs.declared.record_test.Found.TheVariants as found
-use Rattle.digester.proofs.Known.{among_joined, touches_joined}
+use Rattle.digester.proofs.Known.{among_first, among_joined, touches_joined}
 use Rattle.digester.proofs.PlanRuns.{never}
 
 -- ---- another graph
@@ -36,23 +44,75 @@ touched_later r rs i among =
     ap (is_among i) (touches_joined r.effects (effects_in rs)) ∙ among_joined i (touches r.effects) (touches (effects_in rs))
     ∙ right_of (is_among i (touches r.effects)) (is_among i (touches (effects_in rs))) among
 
-same_after : (g h : Graph) (es : List Effect) (i : ℕ) → view_at g i ≡ view_at h i → view_at (after_effects g es) i ≡ view_at (after_effects h es) i
-same_after g h es i same = viewed_after g es i (view_at h i) same ∙ sym (viewed_after h es i (view_at h i) refl)
+-- at some inodes the same numbers stand in two graphs, and entries of the same names
+abbrev AreAlikeAt : List ℕ → Graph → Graph → Type 0
+AreAlikeAt is g h = (i : ℕ) → is_among i is ≡ true → AreAlike (view_at g i) (view_at h i)
 
-one_local : (held : List ℕ) (g h : Graph) (r : Record) → IsCovered held g r → AreSameAt (touches r.effects) g h → IsCovered held h r
-one_local held g h r is same = record {
+turned : (v w : Option NodeView) → AreAlike v w → AreAlike w v
+turned v w alike = record { counts = sym alike.counts; names = λ name. sym (alike.names name) }
+
+joined : (u v w : Option NodeView) → AreAlike u v → AreAlike v w → AreAlike u w
+joined u v w first second = record { counts = first.counts ∙ second.counts; names = λ name. first.names name ∙ second.names name }
+
+itself : (v : Option NodeView) → AreAlike v v
+itself v = record { counts = refl; names = λ name. refl }
+
+both_after : (g h : Graph) (es : List Effect) (i : ℕ) → AreAlike (view_at g i) (view_at h i) → AreAlike (view_at (after_effects g es) i) (view_at (after_effects h es) i)
+both_after g h es i alike =
+    joined (view_at (after_effects g es) i) (view_after es i (view_at h i)) (view_at (after_effects h es) i) (alike_after g es i (view_at h i) alike)
+    (turned (view_at (after_effects h es) i) (view_after es i (view_at h i)) (alike_after h es i (view_at h i) (itself (view_at h i))))
+
+-- limits of numbers
+abbrev AreLow : Option NodeCounts → Type 0
+AreLow None = Unit {0}
+AreLow (Some (counts.File names size)) = (names ≤ MAX_NAMES) × (size ≤ MAX_FILE)
+AreLow (Some (counts.Directory names entries)) = (names ≤ MAX_NAMES) × (entries ≤ MAX_ENTRIES)
+
+by_limits : (v : Option NodeView) → KeepsLimits v → AreLow (option_map counts_of v)
+by_limits None keeps = keeps
+by_limits (Some (FileView names size)) keeps = keeps
+by_limits (Some (DirView names entries)) keeps = keeps
+
+limits_by : (v : Option NodeView) → AreLow (option_map counts_of v) → KeepsLimits v
+limits_by None low = low
+limits_by (Some (FileView names size)) low = low
+limits_by (Some (DirView names entries)) low = low
+
+same_limits : (v w : Option NodeView) → option_map counts_of v ≡ option_map counts_of w → KeepsLimits v → KeepsLimits w
+same_limits v w same keeps = limits_by w (subst AreLow same (by_limits v keeps))
+
+same_sum : (f h : ℕ → ℕ) (is : List ℕ) → ((i : ℕ) → is_among i is ≡ true → f i ≡ h i) → sum_distinct f is ≡ sum_distinct h is
+same_sum f h [] same = refl
+same_sum f h (i ∷ is) same =
+    let rest = same_sum f h is (λ j among. same j (right_of (i == j) (is_among j is) among)) in
+    ap (λ n. (if is_among i is then 0 else n) + sum_distinct f is) (same i (among_first i is)) ∙ ap (λ n. (if is_among i is then 0 else h i) + n) rest
+
+same_growth : (g h : Graph) (es : List Effect) → AllByRecursion FitsLimits es → AreAlikeAt (touches es) g h → growth g es ≡ growth h es
+same_growth g h es fit alike =
+    growth_told g es (view_at g) fit (λ i among. refl)
+    ∙ same_sum (view_rise es (view_at g)) (view_rise es (view_at h)) (touches es) (λ i among.
+    ap (λ (c : Option NodeCounts). counts_cost c - counts_cost (option_map counts_of (view_at g i)))
+    (sym (counts_seen g es i (view_at g i) refl) ∙ (both_after g h es i (alike i among)).counts ∙ counts_seen h es i (view_at h i) refl)
+    ∙ ap (λ (c : Option NodeCounts). counts_cost (counts_after es i (view_at h i)) - counts_cost c) ((alike i among).counts))
+    ∙ sym (growth_told h es (view_at h) fit (λ i among. refl))
+
+one_local : (held : List ℕ) (g h : Graph) (r : Record) → IsCovered held g r → AreAlikeAt (touches r.effects) g h → IsCovered held h r
+one_local held g h r is alike = record {
   spelled = is.spelled;
   holds = is.holds;
-  paid = subst (λ n. n ≤ r.units) (growth_told g r.effects (view_at g) is.spelled.fit (λ i among. refl) ∙ sym (growth_told h r.effects (view_at g) is.spelled.fit (λ i among. sym (same i among)))) is.paid;
-  limits = λ i among. subst KeepsLimits (same_after g h r.effects i (same i among)) (is.limits i among);
+  paid = subst (λ n. n ≤ r.units) (same_growth g h r.effects is.spelled.fit alike) is.paid;
+  limits = λ i among. same_limits (view_at (after_effects g r.effects) i) (view_at (after_effects h r.effects) i) ((both_after g h r.effects i (alike i among)).counts) (is.limits i among);
 }
 
-pub local : (held : List ℕ) (g h : Graph) (rs : List Record) → AreCovered held g rs → AreSameAt (touches (effects_in rs)) g h → AreCovered held h rs
-local held g h [] all same = tt
-local held g h (r ∷ rs) all same = (
-  one_local held g h r all.0 (λ i among. same i (touched_first r rs i among)),
-  local held (after_effects g r.effects) (after_effects h r.effects) rs all.1 (λ i among. same_after g h r.effects i (same i (touched_later r rs i among))),
+covered_alike : (held : List ℕ) (g h : Graph) (rs : List Record) → AreCovered held g rs → AreAlikeAt (touches (effects_in rs)) g h → AreCovered held h rs
+covered_alike held g h [] all alike = tt
+covered_alike held g h (r ∷ rs) all alike = (
+  one_local held g h r all.0 (λ i among. alike i (touched_first r rs i among)),
+  covered_alike held (after_effects g r.effects) (after_effects h r.effects) rs all.1 (λ i among. both_after g h r.effects i (alike i (touched_later r rs i among))),
 )
+
+pub local : (held : List ℕ) (g h : Graph) (rs : List Record) → AreCovered held g rs → AreSameAt (touches (effects_in rs)) g h → AreCovered held h rs
+local held g h rs all same = covered_alike held g h rs all (λ i among. subst (AreAlike (view_at g i)) (same i among) (itself (view_at g i)))
 
 -- ---- units
 

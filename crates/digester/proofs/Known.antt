@@ -1,8 +1,9 @@
 -- Where each inode that effects touch is known, none is the first that is not.
 use Rattle.std.proofs.Common.{◌≡◌, ◌⊎◌, inl, inr, ℕ, ◌+◌, ◌<◌, ◌==◌, ◌||◌, Bool, true, false, cond, List, [], ◌∷◌, ◌++◌, length, take, get_or, Some, None, refl, ap, sym, subst, ◌∙◌, add-one}
 use Rattle.std.proofs.Math.Seq.{take-suc}
+use Rattle.std.proofs.lemmas.Bool.{false≢true}
+use Rattle.std.proofs.lemmas.List.{append-nil}
 use Rattle.std.proofs.lemmas.List.Concat.{flat_map-append}
-use Rattle.std.proofs.lemmas.Map.Views.{exact_unsigned_eq}
 use Rattle.std.specs.List.{find}
 use Rattle.std.proofs.lemmas.Bool.Decides.{eqb_tells}
 use Rattle.update_log.specs.file_graph.declared.effect.Effect.{Effect}
@@ -13,7 +14,7 @@ use Rattle.shared_area.specs.record_validation.KnownNodes.{Known, is_unknown}
 abbrev pub AreKnown : Known → List ℕ → Type 0
 AreKnown m is = (i : ℕ) → is_among i is ≡ true → is_unknown m i ≡ false
 
-either_of : (b c : Bool) → b ≡ true → (b || c) ≡ true
+pub either_of : (b c : Bool) → b ≡ true → (b || c) ≡ true
 either_of b c e = ap (λ x. x || c) e
 
 pub or_of : (b c : Bool) → c ≡ true → (b || c) ≡ true
@@ -44,28 +45,34 @@ among_joined i (d ∷ is) js = elim (d == i) as (λ b. (b || is_among i (is ++ j
 pub touches_joined : (es fs : List Effect) → touches (es ++ fs) ≡ touches es ++ touches fs
 touches_joined es fs = flat_map-append subjects es fs
 
-last_one : (i d : ℕ) → is_among i (d ∷ []) ≡ (d == i)
-last_one i d = or_nothing (d == i)
-  where
-    or_nothing : (b : Bool) → (b || false) ≡ b
-    or_nothing true = refl
-    or_nothing false = refl
-
--- with the next effect, whose inode was learned
-pub more_known : (m n : Known) (es : List Effect) (k d : ℕ) (e : Effect) → k < length es → e ≡ get_or es k e → subjects e ≡ d ∷ [] → AreKnown m (touches (take k es)) → is_unknown n d ≡ false → ((i : ℕ) → is_unknown m i ≡ false → is_unknown n i ≡ false) → AreKnown n (touches (take (k + 1) es))
-more_known m n es k d e lt is one all here others i among =
-    let next : touches (take (k + 1) es) ≡ touches (take k es) ++ (d ∷ []) =
-    ap touches (ap (λ j. take j es) (add-one k) ∙ take-suc es k e lt ∙ ap (λ x. take k es ++ (x ∷ [])) (sym is)) ∙ touches_joined (take k es) (e ∷ []) ∙ ap (λ xs. touches (take k es) ++ (xs ++ [])) one in
-    let split : (is_among i (touches (take k es)) || (d == i)) ≡ true =
-    ap (λ b. is_among i (touches (take k es)) || b) (sym (last_one i d)) ∙ sym (among_joined i (touches (take k es)) (d ∷ [])) ∙ ap (is_among i) (sym next) ∙ among in
-    elim (or_cases (is_among i (touches (take k es))) (d == i) split) [
+-- with the next effect, whose inodes were learned
+pub more_known : (m n : Known) (es : List Effect) (k : ℕ) (e : Effect) → k < length es → e ≡ get_or es k e → AreKnown m (touches (take k es)) → AreKnown n (subjects e) → ((i : ℕ) → is_unknown m i ≡ false → is_unknown n i ≡ false) → AreKnown n (touches (take (k + 1) es))
+more_known m n es k e lt is all here others i among =
+    let next : touches (take (k + 1) es) ≡ touches (take k es) ++ (subjects e ++ []) =
+    ap touches (ap (λ j. take j es) (add-one k) ∙ take-suc es k e lt ∙ ap (λ x. take k es ++ (x ∷ [])) (sym is)) ∙ touches_joined (take k es) (e ∷ []) in
+    let split : (is_among i (touches (take k es)) || is_among i (subjects e ++ [])) ≡ true =
+    sym (among_joined i (touches (take k es)) (subjects e ++ [])) ∙ ap (is_among i) (sym next) ∙ among in
+    elim (or_cases (is_among i (touches (take k es))) (is_among i (subjects e ++ [])) split) [
       | inl there ↦ others i (all i there)
-      | inr last ↦ subst (λ j. is_unknown n j ≡ false) (same_from d i last) here
+      | inr last ↦ here i (ap (is_among i) (sym (append-nil (subjects e))) ∙ last)
     ]
   where
     or_cases : (b c : Bool) → (b || c) ≡ true → (b ≡ true) ⊎ (c ≡ true)
     or_cases true c h = inl refl
     or_cases false c h = inr h
 
-    same_from : (a b : ℕ) → (a == b) ≡ true → a ≡ b
-    same_from a b t = exact_unsigned_eq a b t
+-- of one inode, and of another one behind it
+pub one_of : (i d : ℕ) → is_among i (d ∷ []) ≡ true → d ≡ i
+one_of i d among = elim (eqb_tells d i) [
+  | inl same ↦ same.1
+  | inr apart ↦ absurd (false≢true (sym (ap (λ b. b || false) apart.0) ∙ among))
+]
+
+pub one_known : (n : Known) (d : ℕ) → is_unknown n d ≡ false → AreKnown n (d ∷ [])
+one_known n d known i among = subst (λ j. is_unknown n j ≡ false) (one_of i d among) known
+
+pub two_known : (n : Known) (d e : ℕ) → is_unknown n d ≡ false → is_unknown n e ≡ false → AreKnown n (d ∷ e ∷ [])
+two_known n d e first second i among = elim (eqb_tells d i) [
+  | inl same ↦ subst (λ j. is_unknown n j ≡ false) same.1 first
+  | inr apart ↦ one_known n e second i (sym (ap (λ b. b || is_among i (e ∷ [])) apart.0) ∙ among)
+]

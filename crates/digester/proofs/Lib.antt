@@ -7,6 +7,9 @@ pub mod Applied
 mod Asks
 pub mod Covered
 pub mod Known
+mod Directories
+mod Leads
+mod Settled
 -- Handed on to the crates above, which list only the highest of what they name.
 pub use Rattle.shared_area.proofs.area_reader_lemmas
 pub use Rattle.shared_area.proofs.batch_journal_lemmas

@@ -3,7 +3,7 @@ use Rattle.std.specs.Prelude.{◌≡◌, ◌⊎◌, ◌<◌, ◌+◌, ℕ, List,
 use Rattle.tier_device.specs.declared.media.Media.{Ghosts}
 use Rattle.tier_device.specs.declared.media.Tier.{Tier}
 use Rattle.update_log.specs.file_graph.Graph.{Graph, after_effects}
-use Rattle.coalescer.specs.graph_change.Change.{Changes, coalesced_changes}
+use Rattle.coalescer.specs.graph_change.Change.{Changes}
 use Rattle.update_log.specs.log_record.declared.format.Record.{Record}
 use Rattle.shared_area.specs.layout.declared.marks.Marks.{Marks}
 use Rattle.shared_area.specs.layout.Places.{Sizes}
@@ -13,7 +13,7 @@ use Rattle.shared_area.specs.area_reader.Store.{Store, store_of, graph, marks}
 use Rattle.shared_area.specs.area_reader.Reads.{Loose}
 use Rattle.coalescer.specs.Records.{effects_in}
 use Rattle.coalescer.specs.Weight.{fits_chunk, IsLongestRun}
-use Rattle.digester.specs.Plan.{AreGood, IsFirstBad}
+use Rattle.digester.specs.Plan.{AreGood, IsFirstBad, records_change}
 use Rattle.shared_area.specs.ChangeApply.{IsAppliedStore}
 use Rattle.shared_area.specs.Ready.{OpensAs}
 use Rattle.shared_area.specs.UnchangedMedia.{Stays, AnswersOrStays}
@@ -27,7 +27,7 @@ pub record IsGoodRun (held : List ℕ) (capacity : ℕ) (g : Graph) (rs : List R
   pub some : 0 < length rs
   pub good : AreGood held capacity g rs
   pub fits : fits_chunk (effects_in rs) ≡ true
-  pub change : cs ≡ coalesced_changes (effects_in rs)
+  pub change : cs ≡ records_change g rs
 
 -- The next n records of a sealed log are digested in the new store: they are the longest run that a batch takes, and each was good over the graph as those before it left it. What they come
 -- to is made in it, with the mark of their client, at which the log stood, moved behind them, the marks of the others as they were, and one digest more.
@@ -37,7 +37,7 @@ pub record IsDigested (g : Sizes) (s : Store) (x : SealedView) (n : ℕ) (new : 
   pub before : Marks
   pub old_marks : marks s ≡ Some before
   pub stood : StandsAt x before
-  pub applied : IsAppliedStore g s (coalesced_changes (effects_in (take n (undone x)))) (marks_after before x.client (mark_then x n)) new
+  pub applied : IsAppliedStore g s (records_change (graph g s) (take n (undone x))) (marks_after before x.client (mark_then x n)) new
   -- so the graph is as they leave it
   pub graph_after : graph g new ≡ after_effects (graph g s) (effects_in (take n (undone x)))
 

@@ -1,5 +1,6 @@
 pub mod Chunk
 pub mod DigestStep
+pub mod Directories
 pub mod Errors
 pub mod MarkMoves
 pub mod SealedLog

@@ -1,8 +1,10 @@
 -- Which records of a client's log are digested next, and each of them over the graph as those before it leave it.
-use Rattle.std.specs.Prelude.{◌≡◌, ℕ, zero, suc, true, List, [], ◌∷◌, take}
-use Rattle.update_log.specs.file_graph.Graph.{Graph, after_effects}
+use Rattle.std.specs.Prelude.{◌≡◌, ℕ, zero, suc, true, List, [], ◌∷◌, take, IfSome}
+use Rattle.update_log.specs.file_graph.Graph.{Graph, after_effects, child_at}
+use Rattle.update_log.specs.file_graph.Numbers.{is_inode}
 use Rattle.update_log.specs.file_graph.Units.{charge}
-use Rattle.coalescer.specs.graph_change.Change.{Changes, coalesced_changes}
+use Rattle.coalescer.specs.graph_change.Change.{Changes}
+use Rattle.coalescer.specs.graph_change.Swaps.{SwappedChange, swapped_sum, told_change}
 use Rattle.update_log.specs.log_record.declared.format.Record.{Record}
 use Rattle.coalescer.specs.Records.{effects_in}
 use Rattle.coalescer.specs.Weight.{IsLongestRun}
@@ -10,10 +12,18 @@ use Rattle.shared_area.specs.record_validation.Good.{IsGood}
 use Rattle.digester.specs.declared.record_test.Found.{Found}
 use Rattle.digester.specs.declared.record_test.Found.TheVariants as found
 
--- the first n of these records are the longest run that one batch takes, and that is the change that they come to
-pub record IsNextRun (rs : List Record) (n : ℕ) (cs : Changes) : Type 0 where
+-- the first n of these records are the longest run that one batch takes, and that is what they sum up to
+pub record IsNextRun (rs : List Record) (n : ℕ) (c : SwappedChange) : Type 0 where
   pub run : IsLongestRun rs n
-  pub change : cs ≡ coalesced_changes (effects_in (take n rs))
+  pub change : c ≡ swapped_sum (effects_in (take n rs))
+
+-- the change that records come to on a graph
+abbrev pub records_change : Graph → List Record → Changes
+records_change g rs = told_change g (swapped_sum (effects_in rs))
+
+-- each name of a directory leads to a number that is an inode's
+abbrev pub NamesLeadToInodes : Graph → Type 0
+NamesLeadToInodes g = (d : ℕ) (name : List ℕ) → IfSome (child_at g d name) (λ child. is_inode child.0 ≡ true)
 
 -- each of the records is good over the graph as those before it leave it
 abbrev pub AreGood : List ℕ → ℕ → Graph → List Record → Type 0

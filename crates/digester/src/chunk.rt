@@ -8,7 +8,7 @@ ghost use Rattle.digester.specs.declared.error.DigestError.TheVariants.{Memory};
 use crate::error::DigestError;
 use crate::next_run;
 use crate::sealed_log::SealedLog;
-use coalescer::in_graph_change::GraphChange;
+use coalescer::RunChange;
 use std::alloc::Global;
 
 /// Records of a sealed log that are digested at once, and what they come to.
@@ -22,8 +22,8 @@ pub struct Chunk {
     pub first: u32,
     /// How many records they are.
     pub count: usize,
-    /// What they make of the graph.
-    pub change: GraphChange,
+    /// What they make of the graph, but for what swapped names lead to, which is told as they are digested.
+    pub change: RunChange,
 }
 
 impl Chunk {
@@ -39,7 +39,7 @@ impl Chunk {
 
 /// Prepares the next chunk of a sealed log that has a record left: the longest run of its next records that one batch takes, one at least, and
 /// what it comes to. It needs neither the shared area nor a lock: whoever digests the chunk asks then whether it is still the next one, and
-/// tests its records. An error is want of memory.
+/// tests its records. What swapped names lead to is told then too. An error is want of memory.
 pub fn prepare(alloc: Global, log: &SealedLog) -> Result<Chunk, DigestError>
     requires some { HasUndigested log.now }
     ensures exact { IfOk result (IsChunkOf log.now) }

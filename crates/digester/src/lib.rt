@@ -3,6 +3,8 @@
 //! `prepare` takes the next records of a log and coalesces them, without the shared area: so several logs are prepared side by side, and one
 //! log even twice. `digest_chunk` then tests them over the shared area, which it asks for the nodes that they touch, and makes their change;
 //! it demands that the chunk is still the next one of its log, which `Chunk::is_next` tells.
+//! A change is summed up without the Swaps of its records; where there are some, the directories that they name are read behind the test, and tell what
+//! the swapped names lead to. So a chunk is digested once: one that was refused is dropped, and its records are prepared anew.
 //!
 //! Below them, `next_run` takes the longest run of records that a batch holds, a matter of the records alone, and `test_records` tests each record of a run over the
 //! graph as those before it leave it (`record_validation`): all are good, or the first that is bad is named. It changes nothing.
@@ -18,6 +20,7 @@ mod plan_error;
 mod plan_laws;
 mod record_test;
 mod run_plan;
+mod run_tell;
 mod run_test;
 mod sealed_log;
 

@@ -9,7 +9,7 @@ use Rattle.libfs.specs.client_log.Steps.{WipesCurrent, WipesOther}
 use Rattle.libfs.specs.client_log.declared.error.LogError.{LogError}
 use Rattle.libfs.specs.client_log.declared.error.LogError.TheVariants as logs
 use Rattle.libfs.specs.lease_manager.PassLeases.{AreWritten}
-use Rattle.libfs.specs.digester.Chunk.{IsChunkOf}
+use Rattle.libfs.specs.digester.Chunk.{IsChunkOf, chunk_change}
 use Rattle.libfs.specs.digester.declared.chunk.Chunk.{Chunk}
 use Rattle.libfs.specs.digester.DigestStep.{IsDigested, NamesFirstBad, StaysOrDigests, DigestsOrStays}
 use Rattle.libfs.specs.digester.SealedLog.{SealedView, IsDoneBy, StandsAtMark, undone}
@@ -18,7 +18,6 @@ use Rattle.libfs.specs.digester.declared.error.DigestError.TheVariants as digest
 use Rattle.libfs.specs.coalescer.Weight.{IsLongestRun}
 use Rattle.libfs.specs.area_reader.Store.{disk}
 use Rattle.libfs.specs.shared_area.ChangeApply.{MakesFewCalls}
-use Rattle.libfs.specs.graph_change.View.{changes_of}
 use Rattle.libfs.specs.file_graph.Units.{charge}
 use Rattle.libfs.specs.kernel_fs.Book.{out_of, units_of, waiting_of}
 use Rattle.libfs.specs.world_invariant.Logs.{units_in}
@@ -162,7 +161,7 @@ pub record DigestsNext {M : Type 0} (device : Ghosts M) (k : KernelView M) (x : 
   pub never_bad : (m : Machine) (s : Sealed) (place : ℕ) → IsKernelOf device k m → IsRunning m → IsRegionOf x (m.kernel.accounts x.client).mark s → StandsSealed m.kernel.shared (m.kernel.accounts x.client) s → IsErrOf answer (kernel.Refused (digests.BadLog place)) → ⊥
   pub answers : Answers k.area.failed k after answer (DigestsOrStays device k.area after.area)
   -- as many writes and fences as the change of these records makes, and none where it is not made
-  pub at_most : (c : Chunk) × IsChunkOf x c × (c.count ≡ n) × MakesFewCalls k.area.geometry (disk device k.area) (changes_of c.change) (device.moment k.area.media) (device.moment after.area.media) (device.left k.area.media) (device.left after.area.media)
+  pub at_most : (c : Chunk) × IsChunkOf x c × (c.count ≡ n) × MakesFewCalls k.area.geometry (disk device k.area) (chunk_change (shared_by device k) c) (device.moment k.area.media) (device.moment after.area.media) (device.left k.area.media) (device.left after.area.media)
   pub opening : after.opening ≡ k.opening
 
 -- The next records were prepared and the kernel was asked to digest them, or there was no memory for that.

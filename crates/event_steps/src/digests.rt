@@ -79,7 +79,7 @@ fn digest_next<M: Media>(
     ensures came { ChunkCame M.Media kernel.old (log_of M.Media region.old) result (log_of M.Media region.new) kernel.new }
 {
     match region.prepare(alloc) {
-        Ok(chunk) => digest_prepared(kernel, region, &chunk),
+        Ok(mut chunk) => digest_prepared(kernel, region, &mut chunk),
         Err(_) => Outcome::Refused {
             refusal: Refusal::Memory,
         },
@@ -89,14 +89,14 @@ fn digest_next<M: Media>(
 fn digest_prepared<M: Media>(
     kernel: &mut Kernel<M>,
     region: &mut SealedRegion<M>,
-    chunk: &Chunk,
+    chunk: &mut Chunk,
 ) -> Outcome
     requires read { region.old.read ≡ true }
     requires some { HasUndigested (log_of M.Media region.old) }
-    requires chunk { IsChunkOf (log_of M.Media region.old) chunk.now }
-    requires next { is_next (log_of M.Media region.old) chunk.now ≡ true }
+    requires chunk { IsChunkOf (log_of M.Media region.old) chunk.old }
+    requires next { is_next (log_of M.Media region.old) chunk.old ≡ true }
     ensures rest { region.new ≡ record region.old { done = region.new.done } }
-    ensures came { (answer : Result Digestion (KernelError DigestError)) × (result ≡ digest_outcome answer) × DigestsNext M.Media kernel.old (log_of M.Media region.old) chunk.now.count answer (log_of M.Media region.new) kernel.new }
+    ensures came { (answer : Result Digestion (KernelError DigestError)) × (result ≡ digest_outcome answer) × DigestsNext M.Media kernel.old (log_of M.Media region.old) chunk.old.count answer (log_of M.Media region.new) kernel.new }
 {
     match region.digest(kernel, chunk) {
         Ok(digestion) => digestion_outcome(digestion),

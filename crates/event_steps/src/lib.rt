@@ -46,9 +46,7 @@ pub mod in_file_graph {
 
 /// Of `kernel_fs`, what the crates above name.
 pub mod in_kernel_fs {
-    pub use libfs::in_kernel_fs::{
-        Fetched, FetchedBytes, Figures, Kernel, KernelError, ReclaimError, drop_nameless,
-    };
+    pub use libfs::in_kernel_fs::{Fetched, FetchedBytes, Figures, Kernel, KernelError};
 }
 
 /// Of `layout`, what the crates above name.
@@ -88,5 +86,5 @@ pub mod in_shared_area {
 
 /// Of `update_log`, what the crates above name.
 pub mod in_update_log {
-    pub use libfs::in_update_log::{REGION_SIZE, Region, RegionError, WipeProgress};
+    pub use libfs::in_update_log::{REGION_SIZE, Region};
 }

@@ -78,12 +78,13 @@ module _ {S : Type 0} (tree : Ghosts S) where
   ServesOther old new node request.SymLink a s t = (a ≡ answer.Refused (refusal.Posix errno.NotPermitted)) × (t ≡ s) × (new ≡ old)
   ServesOther old new node r a s t = (a ≡ end_answer r) × (t ≡ s) × ((e : Refusal) → a ≡ answer.Refused e → new ≡ old)
 
-  -- What one that makes or moves a name of a file asks, and its answer: CREATE, MKNOD, RENAME, RENAME2.
+  -- What one that makes or moves a name of a file asks, and its answer: CREATE, MKNOD, RENAME, RENAME2. Where two names are exchanged (flag 2)
+  -- and that is refused, the nodes and the open files are as they were.
   abbrev pub ServesName : Tables → Tables → ℕ → Request → Answer → S → S → Type 0
   ServesName old new node (request.Create name flags mode) a s t = AnswersResult (answer_of answer.Created) (MakesAt tree old.nodes node name.now (creation_by flags)) a s t
   ServesName old new node (request.MkNod name mode) a s t = AnswersResult (answer_of answer.Entry) (MakesNode tree old.nodes node name.now mode) a s t
   ServesName old new node (request.Rename name folder to) a s t = AnswersResult (answer_of (λ _. answer.Done)) (Renames tree old.nodes (node, name.now) (folder, to.now) 0) a s t
-  ServesName old new node (request.Rename2 name folder to flags) a s t = AnswersResult (answer_of (λ _. answer.Done)) (Renames tree old.nodes (node, name.now) (folder, to.now) flags) a s t
+  ServesName old new node (request.Rename2 name folder to flags) a s t = AnswersResult (answer_of (λ _. answer.Done)) (λ result s t. Renames tree old.nodes (node, name.now) (folder, to.now) flags result s t × (flags ≡ 2 → OnErr result (new ≡ old))) a s t
   ServesName old new node r a s t = ServesOther old new node r a s t
 
   -- What one about a file asks, and its answer: SETATTR, OPEN, READ, RELEASE.

@@ -10,6 +10,7 @@ use Rattle.tier_device.specs.AfterStop.{Left}
 use Rattle.world_invariant.specs.file_graph.declared.effect.Effect.TheVariants as effect
 use Rattle.world_invariant.specs.file_graph.Graph.{Graph, Node, Body, FileBody, DirBody, set_node}
 use Rattle.world_invariant.specs.file_graph.Units.{charge}
+use Rattle.migrator.specs.graph_change.Net.{Child}
 use Rattle.migrator.specs.graph_change.Change.{Change, Changes, Coalesces, changed_graph, coalesced_changes}
 use Rattle.migrator.specs.layout.declared.marks.Marks.{Marks}
 use Rattle.migrator.specs.layout.Places.{Sizes, is_inode}
@@ -25,9 +26,10 @@ use Rattle.migrator.specs.shared_area.Ready.{OpensAs}
 use Rattle.migrator.specs.shared_area.ChangeApply.{IsAppliedStore}
 use Rattle.migrator.specs.shared_area.GraphUpdate.{StaysOrChanges}
 use Rattle.digester.specs.coalescer.Weight.{fits_chunk}
-use Rattle.digester.specs.coalescer.Within.{images_of}
+use Rattle.digester.specs.coalescer.Within.{entry_images, images_in, images_of}
 use Rattle.digester.proofs.Applied.{fit_images}
 use Rattle.posix_calls.proofs.Sums.{same_if, there_if}
+use Rattle.digester.specs.tree_blocks.Directory.{entry_blocks, most_written}
 use Rattle.migrator.specs.change_plan.Next.{HasFewEntries, nodes_for}
 use Rattle.migrator.specs.change_plan.BlockDemand.{images_for, AreWritten}
 use Rattle.migrator.proofs.shared_area_lemmas.Entries.{no_view}
@@ -153,8 +155,14 @@ one_inode i is = grind (arith, nat_tests)
 same_images : (cs : Changes) → images_for cs ≡ images_of cs
 same_images cs = ap (λ (f : ℕ × Change → ℕ). sum_by f (fin.entries cs)) (λ t e. each e t)
   where
-    each : (e : ℕ × Change) → 1 + nodes_for e.1 ≡ 4 + 2 * fin.len e.1.entries
-    each e = omega arith
+    of_name : (o : Option Child) → entry_blocks o ≡ entry_images o
+    of_name None = refl
+    of_name (Some child) = refl
+
+    each : (e : ℕ × Change) → 1 + nodes_for e.1 ≡ 4 + images_in e.1.entries
+    each e =
+        let names : most_written (fin.entries e.1.entries) ≡ images_in e.1.entries = ap (λ (f : List ℕ × Option Child → ℕ). sum_by f (fin.entries e.1.entries)) (λ t x. of_name x.1 t) in
+        omega (arith, names)
 
 -- it is as small as a chunk
 small : (i : ℕ) → fits_chunk (effect.Drop i ∷ []) ≡ true
@@ -164,7 +172,7 @@ small i = search rules
 pub few_images : (i : ℕ) (cs : Changes) → cs ≡ coalesced_changes (effect.Drop i ∷ []) → images_for cs ≤ 255
 few_images i cs is =
     let same = same_images cs in
-    let few = subst (λ (c : Changes). images_of c ≤ 255) (sym is) (fit_images (effect.Drop i ∷ []) (small i)) in
+    let few = subst (λ (c : Changes). images_of c ≤ 255) (sym is) (fit_images (λ j. None) (effect.Drop i ∷ []) (small i)) in
     omega (arith, same, few)
 
 pub charge_fits : (i : ℕ) (cs : Changes) (law : Coalesces (effect.Drop i ∷ []) cs) (g : Graph) (units : ℕ) → charge g ≤ units → charge (changed_graph cs g) ≤ units

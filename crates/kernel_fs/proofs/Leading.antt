@@ -2,12 +2,14 @@
 use Rattle.std.proofs.Common.{◌≡◌, ◌≢◌, inl, inr, ℕ, zero, suc, ◌+◌, ◌<◌, ◌≤◌, ◌==◌, ◌||◌, List, [], ◌∷◌, length, get_or, drop, Bool, true, false, cond, Option, Some, None, refl, ap, sym, ◌∙◌, subst, add-one, drop-cons, arith}
 use Rattle.std.specs.List.{AllByRecursion}
 use Rattle.std.specs.Prelude.{option_map}
+use Rattle.std.specs.FinMap as fin
 use Rattle.std.proofs.lemmas.Bool.{eq-eqb}
 use Rattle.std.proofs.lemmas.Bool.Decides.{eqb_tells}
 use Rattle.world_invariant.specs.file_graph.declared.effect.Effect.{Effect}
 use Rattle.world_invariant.specs.file_graph.declared.effect.Effect.TheVariants as effect
 use Rattle.world_invariant.specs.file_graph.declared.effect.Kind.{Kind}
-use Rattle.world_invariant.specs.file_graph.Graph.{Graph, Node, subject_after, after_effect, subjects, is_among}
+use Rattle.posix_calls.specs.Content.{Entries}
+use Rattle.world_invariant.specs.file_graph.Graph.{Graph, Node, with_body, in_directory, subject_after, acted_graph, acted_all, after_effect, exchanged_entries, child_at, subjects, is_among}
 use Rattle.world_invariant.specs.LeaseSteps.{also, without}
 use Rattle.kernel_fs.specs.Nodes.{AreNodes, is_node}
 
@@ -34,8 +36,20 @@ kept true f None = refl
 kept true f (Some n) = refl
 kept false f o = refl
 
-pub stays : (g : Graph) (e : Effect) (nodes : ℕ → Bool) (f : Node → Node) → ((o : Option Node) → subject_after e o ≡ option_map f o) → AreNodes g nodes → AreNodes (after_effect g e) nodes
+pub stays : (g : Graph) (e : Effect) (nodes : ℕ → Bool) (f : Node → Node) → ((o : Option Node) → subject_after e o ≡ option_map f o) → AreNodes g nodes → AreNodes (acted_graph g e) nodes
 stays g e nodes f is are j = are j ∙ kept (is_among j (subjects e)) f (g j) ∙ sym (ap (λ o. is_node (cond (is_among j (subjects e)) o (g j))) (is (g j)))
+
+-- so does a Swap, which enters two names or does nothing
+entered : (g : Graph) (d i : ℕ) (k : Kind) (name : List ℕ) (nodes : ℕ → Bool) → AreNodes g nodes → AreNodes (acted_graph g (effect.Enter d i k name)) nodes
+entered g d i k name nodes are = stays g (effect.Enter d i k name) nodes (with_body (in_directory (λ (es : Entries (ℕ × Kind)). fin.insert es name (i, k)))) (λ o. refl) are
+
+exchanged : (g : Graph) (d e : ℕ) (a b : List ℕ) (x y : Option (ℕ × Kind)) (nodes : ℕ → Bool) → AreNodes g nodes → AreNodes (acted_all g (exchanged_entries d a e b x y)) nodes
+exchanged g d e a b (Some x) (Some y) nodes are = entered (acted_graph g (effect.Enter d y.0 y.1 a)) e x.0 x.1 b nodes (entered g d y.0 y.1 a nodes are)
+exchanged g d e a b (Some x) None nodes are = are
+exchanged g d e a b None y nodes are = are
+
+pub swapped : (g : Graph) (d e : ℕ) (a b : List ℕ) (nodes : ℕ → Bool) → AreNodes g nodes → AreNodes (after_effect g (effect.Swap d a e b)) nodes
+swapped g d e a b nodes are = exchanged g d e a b (child_at g d a) (child_at g e b) nodes are
 
 -- ---- several, one after the other
 

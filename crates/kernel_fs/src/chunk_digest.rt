@@ -1,14 +1,14 @@
 //! A chunk reaches the shared area, and what is kept in memory follows it.
 
-ghost use Rattle.std.specs.Prelude.{◌≡◌, ◌≤◌, ◌<◌, ◌+◌, ◌↔◌, ℕ, length, take, true, false, IsTrue, IfErr, OnOk, OnErr};
+ghost use Rattle.std.specs.Prelude.{◌≡◌, ◌≤◌, ◌<◌, ◌+◌, ◌↔◌, ℕ, [], length, take, true, false, IsTrue, IfErr, OnOk, OnErr};
 ghost use Rattle.std.specs.List.{AllByRecursion};
 ghost use Rattle.posix_calls.specs.Operations.{is_client};
 ghost use Rattle.world_invariant.specs.file_graph.Graph.{Graph};
 ghost use Rattle.migrator.specs.graph_change.View.{changes_of};
 ghost use Rattle.world_invariant.specs.log_record.Grammar.{IsRecord};
 ghost use Rattle.migrator.specs.shared_area.ChangeApply.{MakesFewCalls};
-ghost use Rattle.migrator.specs.area_reader.Store.{disk};
-ghost use Rattle.digester.specs.Chunk.{IsChunkOf, is_next};
+ghost use Rattle.migrator.specs.area_reader.Store.{disk, graph};
+ghost use Rattle.digester.specs.Chunk.{IsChunkOf, chunk_change, is_next};
 ghost use Rattle.digester.specs.DigestStep.{IsDigested, NamesFirstBad, StaysOrDigests, DigestsOrStays};
 ghost use Rattle.digester.specs.SealedLog.{HasUndigested, IsDoneBy, StandsAtMark, undone};
 ghost use Rattle.world_invariant.specs.Logs.{after_records, units_in};
@@ -59,32 +59,36 @@ pub fn follow(book: &mut Book, nodes: &mut InodeSet, client: u32, records: &[Rec
     nodes.follow(records);
 }
 
-/// Digests a chunk that begins at the mark, and what is kept in memory follows it.
+/// Digests a chunk that begins at the mark, and what is kept in memory follows it. What the chunk's Swaps enter is told to it then, by the area: after a refusal nothing is said of
+/// its change.
 pub fn digest_at_mark<M: Media>(
     alloc: Global,
     area: &mut Shared<M>,
     book: &mut Book,
     nodes: &mut InodeSet,
     log: &mut SealedLog,
-    chunk: &Chunk,
+    chunk: &mut Chunk,
 ) -> Result<(), DigestError>
     requires some { HasUndigested log.old }
-    requires chunk { IsChunkOf log.old chunk.now }
-    requires next { is_next log.old chunk.now ≡ true }
+    requires chunk { IsChunkOf log.old chunk.old }
+    requires next { is_next log.old chunk.old ≡ true }
     requires at_mark { area.old.failed ≡ false → StandsAtMark log.old (disk M.Media area.old) }
     requires accepted { HasAsManyWaiting book.old log.old }
-    ensures any_moment { area.old.failed ≡ false → StaysOrDigests area.old.geometry (disk M.Media area.old) log.old chunk.now.count (M.moment area.old.media) (M.moment area.new.media) (M.left area.old.media) (M.left area.new.media) }
-    ensures digested { OnOk result (IsDigested area.old.geometry (disk M.Media area.old) log.old chunk.now.count (disk M.Media area.new)) }
-    ensures done { OnOk result (IsDoneBy log.old chunk.now.count log.new) }
+    ensures any_moment { area.old.failed ≡ false → StaysOrDigests area.old.geometry (disk M.Media area.old) log.old chunk.old.count (M.moment area.old.media) (M.moment area.new.media) (M.left area.old.media) (M.left area.new.media) }
+    ensures digested { OnOk result (IsDigested area.old.geometry (disk M.Media area.old) log.old chunk.old.count (disk M.Media area.new)) }
+    ensures done { OnOk result (IsDoneBy log.old chunk.old.count log.new) }
     ensures at_mark { OnOk result (StandsAtMark log.new (disk M.Media area.new)) }
-    ensures book { OnOk result ((m : Machine) → IsBookOf book.old m → IsBookOf book.new (digested m log.old.client (take chunk.now.count (undone log.old)))) }
-    ensures nodes { OnOk result ((g : Graph) → AreNodes g (has nodes.old) → AreNodes (after_records g (take chunk.now.count (undone log.old))) (has nodes.new)) }
+    ensures book { OnOk result ((m : Machine) → IsBookOf book.old m → IsBookOf book.new (digested m log.old.client (take chunk.old.count (undone log.old)))) }
+    ensures nodes { OnOk result ((g : Graph) → AreNodes g (has nodes.old) → AreNodes (after_records g (take chunk.old.count (undone log.old))) (has nodes.new)) }
     ensures accepted { OnOk result (HasAsManyWaiting book.new log.new) }
-    ensures law { OnOk result ((before after capacity : ℕ) → units_in (take chunk.now.count (undone log.old)) ≤ units_of book.old log.old.client → after ≤ before + units_in (take chunk.now.count (undone log.old)) → before + out_of book.old ≤ capacity → after + out_of book.new ≤ capacity) }
-    ensures bad { IfErr result (NamesFirstBad area.old.geometry (disk M.Media area.old) log.old chunk.now.count) }
+    ensures law { OnOk result ((before after capacity : ℕ) → units_in (take chunk.old.count (undone log.old)) ≤ units_of book.old log.old.client → after ≤ before + units_in (take chunk.old.count (undone log.old)) → before + out_of book.old ≤ capacity → after + out_of book.new ≤ capacity) }
+    ensures bad { IfErr result (NamesFirstBad area.old.geometry (disk M.Media area.old) log.old chunk.old.count) }
     ensures refused { OnErr result ((book.new ≡ book.old) × (nodes.new ≡ nodes.old) × (log.new ≡ log.old)) }
     ensures digests { DigestsOrStays M.Media area.old area.new result }
-    ensures at_most { MakesFewCalls area.old.geometry (disk M.Media area.old) (changes_of chunk.now.change) (M.moment area.old.media) (M.moment area.new.media) (M.left area.old.media) (M.left area.new.media) }
+    ensures at_most { MakesFewCalls area.old.geometry (disk M.Media area.old) (chunk_change (graph area.old.geometry (disk M.Media area.old)) chunk.old) (M.moment area.old.media) (M.moment area.new.media) (M.left area.old.media) (M.left area.new.media) }
+    ensures chunk_after { OnOk result (changes_of chunk.new.change.change ≡ chunk_change (graph area.old.geometry (disk M.Media area.old)) chunk.old) }
+    ensures chunk_without_swap { chunk.old.change.names ≡ [] → chunk.new ≡ chunk.old }
+    ensures chunk_rest { chunk.new ≡ record chunk.old { change = chunk.new.change } }
 {
     let first = log.digested_count() as usize;
     digest_chunk(alloc, area, log, chunk)?;

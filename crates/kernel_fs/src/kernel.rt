@@ -23,7 +23,7 @@ ghost use Rattle.migrator.specs.shared_area.FileReads.{bytes_of_inode, IsReadFro
 ghost use Rattle.migrator.specs.relocation.TierMove.{CanMove, IsMoved};
 ghost use Rattle.migrator.specs.relocation.MovableFile.{HasFileRun};
 ghost use Rattle.migrator.specs.shared_area.TierMoves.{HasTooFew, HasEnough, StaysOpen, MovesOrStays};
-ghost use Rattle.digester.specs.Chunk.{IsChunkOf, is_next};
+ghost use Rattle.digester.specs.Chunk.{IsChunkOf, chunk_change, is_next};
 ghost use Rattle.digester.specs.DigestStep.{IsDigested, NamesFirstBad, StaysOrDigests, DigestsOrStays};
 ghost use Rattle.digester.specs.SealedLog.{HasUndigested, IsDoneBy, StandsAtMark, undone};
 ghost use Rattle.digester.specs.declared.error.DigestError.TheVariants.{BadLog};
@@ -318,42 +318,49 @@ impl<M: Media> Kernel<M> {
     /// the chunk begins at the mark, but not as many records of its client are waiting as its log has undigested. Nothing has changed then, and no device was asked.
     ///
     /// The refusals are of chunks that begin at the mark and are accepted. `BadLog` names the first bad record of the chunk, by its place
-    /// in the region; there is none in a region that stands in a machine which runs. It never wants for blocks. `Memory` where there was none. After these nothing has changed. `DeviceFault` where a device failed.
+    /// in the region; there is none in a region that stands in a machine which runs. It never wants for blocks. `Memory` where there was none. After these nothing has changed but the chunk, of whose change nothing is said
+    /// where it has a Swap: it is to be prepared again. `DeviceFault` where a device failed.
     pub fn digest(
         &mut self,
         log: &mut SealedLog,
-        chunk: &Chunk,
+        chunk: &mut Chunk,
     ) -> Result<Digestion, KernelError<DigestError>>
         requires some { HasUndigested log.old }
-        requires chunk { IsChunkOf log.old chunk.now }
-        ensures any_moment { self.old.area.failed ≡ false → BeginsAtMark log.old chunk.now (disk M.Media self.old.area) → HasAsManyWaiting self.old.book log.old → StaysOrDigests self.old.area.geometry (disk M.Media self.old.area) log.old chunk.now.count (M.moment self.old.area.media) (M.moment self.new.area.media) (M.left self.old.area.media) (M.left self.new.area.media) }
+        requires chunk { IsChunkOf log.old chunk.old }
+        ensures any_moment { self.old.area.failed ≡ false → BeginsAtMark log.old chunk.old (disk M.Media self.old.area) → HasAsManyWaiting self.old.book log.old → StaysOrDigests self.old.area.geometry (disk M.Media self.old.area) log.old chunk.old.count (M.moment self.old.area.media) (M.moment self.new.area.media) (M.left self.old.area.media) (M.left self.new.area.media) }
 
         // What is answered, and what has changed then.
-        ensures next { IfOk result (λ a. (a ≡ Digested) ↔ (BeginsAtMark log.old chunk.now (disk M.Media self.old.area) × HasAsManyWaiting self.old.book log.old)) }
-        ensures not_next { IfOk result (λ a. (a ≡ NotNext) ↔ (BeginsAtMark log.old chunk.now (disk M.Media self.old.area) → ⊥)) }
-        ensures stale { IfOk result (λ a. is_next log.old chunk.now ≡ false → a ≡ NotNext) }
+        ensures next { IfOk result (λ a. (a ≡ Digested) ↔ (BeginsAtMark log.old chunk.old (disk M.Media self.old.area) × HasAsManyWaiting self.old.book log.old)) }
+        ensures not_next { IfOk result (λ a. (a ≡ NotNext) ↔ (BeginsAtMark log.old chunk.old (disk M.Media self.old.area) → ⊥)) }
+        ensures stale { IfOk result (λ a. is_next log.old chunk.old ≡ false → a ≡ NotNext) }
         ensures another_mark { IfOk result (λ a. (StandsAtMark log.old (disk M.Media self.old.area) → ⊥) → a ≡ NotNext) }
-        ensures not_accepted { IfOk result (λ a. (a ≡ NotAccepted) ↔ (BeginsAtMark log.old chunk.now (disk M.Media self.old.area) × (HasAsManyWaiting self.old.book log.old → ⊥))) }
+        ensures not_accepted { IfOk result (λ a. (a ≡ NotAccepted) ↔ (BeginsAtMark log.old chunk.old (disk M.Media self.old.area) × (HasAsManyWaiting self.old.book log.old → ⊥))) }
         ensures not_digested { IfOk result (λ a. a ≢ Digested → (self.new ≡ self.old) × (log.new ≡ log.old)) }
-        ensures digested { IfOk result (λ a. a ≡ Digested → IsDigested self.old.area.geometry (disk M.Media self.old.area) log.old chunk.now.count (disk M.Media self.new.area)) }
-        ensures done { IfOk result (λ a. a ≡ Digested → IsDoneBy log.old chunk.now.count log.new) }
+        ensures chunk_stays { IfOk result (λ a. a ≢ Digested → chunk.new ≡ chunk.old) }
+        ensures chunk_unasked { self.old.area.failed ≡ true → chunk.new ≡ chunk.old }
+        ensures digested { IfOk result (λ a. a ≡ Digested → IsDigested self.old.area.geometry (disk M.Media self.old.area) log.old chunk.old.count (disk M.Media self.new.area)) }
+        ensures done { IfOk result (λ a. a ≡ Digested → IsDoneBy log.old chunk.old.count log.new) }
         ensures at_mark { IfOk result (λ a. a ≡ Digested → StandsAtMark log.new (disk M.Media self.new.area)) }
         ensures accepted { IfOk result (λ a. a ≡ Digested → HasAsManyWaiting self.new.book log.new) }
-        ensures step { IfOk result (λ a. a ≡ Digested → (m : Machine) → IsKernelOf M.Media self.old m → IsKernelOf M.Media self.new (digested m log.old.client (take chunk.now.count (undone log.old)))) }
-        ensures booked { IfOk result (λ a. a ≡ Digested → (m : Machine) → IsBookOf self.old.book m → IsBookOf self.new.book (digested m log.old.client (take chunk.now.count (undone log.old)))) }
+        ensures step { IfOk result (λ a. a ≡ Digested → (m : Machine) → IsKernelOf M.Media self.old m → IsKernelOf M.Media self.new (digested m log.old.client (take chunk.old.count (undone log.old)))) }
+        ensures booked { IfOk result (λ a. a ≡ Digested → (m : Machine) → IsBookOf self.old.book m → IsBookOf self.new.book (digested m log.old.client (take chunk.old.count (undone log.old)))) }
         // What the records raise of the charge they have in units.
         ensures law { OnOk result (units_in (undone log.old) ≤ units_of self.old.book log.old.client → charge (graph self.old.area.geometry (disk M.Media self.old.area)) + out_of self.old.book ≤ self.old.area.geometry.units
             → charge (graph self.new.area.geometry (disk M.Media self.new.area)) + out_of self.new.book ≤ self.new.area.geometry.units) }
 
         // a chunk that does not begin at the mark, or is not accepted, is told as such, and as nothing else
-        ensures only_next { IfErr result (λ e. OnRefusal e (λ _. BeginsAtMark log.old chunk.now (disk M.Media self.old.area) × HasAsManyWaiting self.old.book log.old)) }
-        ensures bad { IfErr result (λ e. OnRefusal e (NamesFirstBad self.old.area.geometry (disk M.Media self.old.area) log.old chunk.now.count)) }
+        ensures only_next { IfErr result (λ e. OnRefusal e (λ _. BeginsAtMark log.old chunk.old (disk M.Media self.old.area) × HasAsManyWaiting self.old.book log.old)) }
+        ensures bad { IfErr result (λ e. OnRefusal e (NamesFirstBad self.old.area.geometry (disk M.Media self.old.area) log.old chunk.old.count)) }
         ensures never_bad { (m : Machine) (s : Sealed) (place : ℕ) → IsKernelOf M.Media self.old m → IsRunning m → IsRegionOf log.old (m.kernel.accounts log.old.client).mark s → StandsSealed m.kernel.shared (m.kernel.accounts log.old.client) s
             → IsErrOf result (Refused (BadLog place)) → ⊥ }
         ensures refused { OnErr result ((self.new.book ≡ self.old.book) × (log.new ≡ log.old)) }
         ensures answers { Answers self.old.area.failed self.old self.new result (DigestsOrStays M.Media self.old.area self.new.area) }
         // As many writes and fences as the change of the chunk makes, and none where it is not made; what is read is not counted.
-        ensures at_most { MakesFewCalls self.old.area.geometry (disk M.Media self.old.area) (changes_of chunk.now.change) (M.moment self.old.area.media) (M.moment self.new.area.media) (M.left self.old.area.media) (M.left self.new.area.media) }
+        ensures at_most { MakesFewCalls self.old.area.geometry (disk M.Media self.old.area) (chunk_change (graph self.old.area.geometry (disk M.Media self.old.area)) chunk.old) (M.moment self.old.area.media) (M.moment self.new.area.media) (M.left self.old.area.media) (M.left self.new.area.media) }
+        // What its Swaps enter is told to a chunk that is digested; one without a Swap stays as it was. After a refusal nothing is said of its change.
+        ensures chunk_after { IfOk result (λ a. a ≡ Digested → changes_of chunk.new.change.change ≡ chunk_change (graph self.old.area.geometry (disk M.Media self.old.area)) chunk.old) }
+        ensures chunk_without_swap { chunk.old.change.names ≡ [] → chunk.new ≡ chunk.old }
+        ensures chunk_rest { chunk.new ≡ record chunk.old { change = chunk.new.change } }
         ensures opening { self.new.opening ≡ self.old.opening }
     {
         if self.area.has_failed() {

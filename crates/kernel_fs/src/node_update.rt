@@ -46,6 +46,7 @@ impl InodeSet {
             Effect::Names { .. } => {}
             Effect::Size { .. } => {}
             Effect::Bytes { .. } => {}
+            Effect::Swap { .. } => {}
         }
     }
 }

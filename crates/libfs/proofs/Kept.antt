@@ -1,6 +1,6 @@
 -- A client stays sound: one lemma for each kind of call.
 use Rattle.std.proofs.Common.{◌≡◌, inl, inr, ℕ, zero, suc, ◌+◌, ◌<◌, ◌≤◌, ◌==◌, Bool, true, false, cond, List, [], ◌∷◌, ◌++◌, refl, sym, ◌∙◌, ap, subst, append_assoc, arith}
-use Rattle.std.specs.Prelude.{Option, Some, None, IsSome, is_some, not, option_map, ◌&&◌}
+use Rattle.std.specs.Prelude.{Option, Some, None, IsSome, is_some, not, ◌&&◌}
 use Rattle.std.specs.Option.{ForSome}
 use Rattle.std.proofs.lemmas.Bool.{true≢false, false≢true, cases_eq, cond-false, ne_eqb}
 use Rattle.std.proofs.lemmas.List.Sums.{sum_by-append}
@@ -26,7 +26,8 @@ use Rattle.client_view.specs.KnowledgeChanges.{without_inode}
 use Rattle.libfs.specs.Sound.{IsSound}
 use Rattle.client_view.specs.declared.own_change.OwnChange.{OwnChange}
 use Rattle.client_log.specs.call_effects.Knowledge.{Knowledge}
-use Rattle.client_log.specs.call_effects.NodeView.{NodeView, view_after}
+use Rattle.client_log.specs.call_effects.NodeView.{NodeView}
+use Rattle.client_log.proofs.call_effects_lemmas.KnownCopies.{some_after}
 use Rattle.client_view.specs.AfterRecord.{is_made, knows_logged, with_made}
 use Rattle.client_view.specs.client_plan.declared.outcome.DescriptorChange.{DescriptorChange}
 use Rattle.lease_manager.specs.file_graph.declared.effect.Effect.{Effect}
@@ -77,13 +78,9 @@ pub put_some : {A : Type 0} (b : Bool) (x : A) (o : Option A) → IsSome o → I
 put_some true x o some = refl
 put_some false x o some = some
 
-mapped_some : {A B : Type 0} (f : A → B) (o : Option A) → IsSome o → IsSome (option_map f o)
-mapped_some f None some = absurd (cc)
-mapped_some f (Some x) some = refl
-
 -- and where effects are done to it
 pub logged_some : (k : Knowledge) (es : List Effect) (made : Option ℕ) (change : Option DescriptorChange) (i : ℕ) → IsSome ((with_made k made).copies i) → IsSome ((knows_logged k es made change).copies i)
-logged_some k es made change i some = mapped_some (view_after es i) ((with_made k made).copies i) some
+logged_some k es made change i some = some_after es (with_made k made).copies i ∙ some
 
 -- fewer records are touched by as many copies
 fewer_copied : (few many : List Record) (made : Option ℕ) (k : Knowledge) → ((i : ℕ) → touch_count few i ≤ touch_count many i) → AreCopied many made k → AreCopied few made k

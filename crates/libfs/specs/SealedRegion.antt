@@ -11,12 +11,12 @@ use Rattle.lease_manager.specs.file_graph.Graph.{is_among}
 use Rattle.lease_manager.specs.log_record.Grammar.{IsRecord}
 use Rattle.lease_manager.specs.log_record.declared.format.Record.{Record}
 use Rattle.kernel_fs.specs.digester.SealedLog.{SealedView, IsDoneBy, StandsAtMark, undone}
+use Rattle.kernel_fs.specs.digester.Chunk.{chunk_change}
 use Rattle.kernel_fs.specs.digester.declared.chunk.Chunk.{Chunk}
 use Rattle.kernel_fs.specs.digester.DigestStep.{IsDigested, NamesFirstBad, StaysOrDigests, DigestsOrStays}
 use Rattle.kernel_fs.specs.digester.declared.error.DigestError.{DigestError}
 use Rattle.kernel_fs.specs.digester.declared.error.DigestError.TheVariants as digests
 use Rattle.kernel_fs.specs.area_reader.Store.{disk, graph}
-use Rattle.kernel_fs.specs.graph_change.View.{changes_of}
 use Rattle.kernel_fs.specs.shared_area.ChangeApply.{MakesFewCalls}
 use Rattle.lease_manager.specs.file_graph.Units.{charge}
 use Rattle.client_log.specs.world_invariant.Logs.{units_in}
@@ -123,5 +123,5 @@ pub record DigestsChunk {M : Type 0} (device : Ghosts M) (k : KernelView M) (x :
   pub refused : OnErr answer ((after.book ≡ k.book) × (y ≡ x))
   pub answers : Answers k.area.failed k after answer (DigestsOrStays device k.area after.area)
   -- as many writes and fences as the change of the chunk makes, and none where it is not made; what is read is not counted
-  pub at_most : MakesFewCalls k.area.geometry (disk device k.area) (changes_of c.change) (device.moment k.area.media) (device.moment after.area.media) (device.left k.area.media) (device.left after.area.media)
+  pub at_most : MakesFewCalls k.area.geometry (disk device k.area) (chunk_change (graph k.area.geometry (disk device k.area)) c) (device.moment k.area.media) (device.moment after.area.media) (device.left k.area.media) (device.left after.area.media)
   pub opening : after.opening ≡ k.opening

@@ -68,7 +68,6 @@ pub mod in_file_graph {
 pub mod in_kernel_fs {
     pub use kernel_fs::{
         AcceptError, Digestion, Fetched, FetchedBytes, Figures, Kernel, KernelError, ReclaimError,
-        drop_nameless,
     };
 }
 
@@ -104,5 +103,5 @@ pub mod in_shared_area {
 
 /// Of `update_log`, what the crates above name.
 pub mod in_update_log {
-    pub use client_log::in_update_log::{REGION_SIZE, Region, RegionError, WipeProgress};
+    pub use client_log::in_update_log::{REGION_SIZE, Region, WipeProgress};
 }

@@ -1,6 +1,6 @@
 //! A region that a client sealed, until it is taken back.
 
-ghost use Rattle.std.specs.Prelude.{◌≡◌, ◌⊎◌, ◌<◌, ◌^◌, ◌==◌, ℕ, List, Ok, length, true, false, IfErr, IfOk, IsErrOf, OnErr, OnOk};
+ghost use Rattle.std.specs.Prelude.{◌≡◌, ◌≢◌, ◌⊎◌, ◌<◌, ◌^◌, ◌==◌, ℕ, List, [], Ok, length, true, false, IfErr, IfOk, IsErrOf, OnErr, OnOk};
 ghost use Rattle.std.specs.List.{AllByRecursion};
 ghost use Rattle.std.specs.List.Sorted.{IsStrictlyIncreasing};
 ghost use Rattle.tier_device.specs.declared.media.Tier.TheVariants.{Fast};
@@ -13,7 +13,10 @@ ghost use Rattle.client_log.specs.Regions.{IsSealedRegion};
 ghost use Rattle.client_log.specs.declared.error.LogError.TheVariants as logs;
 ghost use Rattle.lease_manager.specs.log_record.Grammar.{IsRecord};
 ghost use Rattle.posix_calls.specs.Operations.{is_client};
-ghost use Rattle.kernel_fs.specs.digester.Chunk.{IsChunkOf, is_next};
+ghost use Rattle.kernel_fs.specs.area_reader.Store.{disk, graph};
+ghost use Rattle.kernel_fs.specs.declared.chunk_digest.Digestion.TheVariants.{Digested};
+ghost use Rattle.kernel_fs.specs.graph_change.View.{changes_of};
+ghost use Rattle.kernel_fs.specs.digester.Chunk.{IsChunkOf, chunk_change, is_next};
 ghost use Rattle.kernel_fs.specs.digester.SealedLog.{HasUndigested, IsSealed};
 ghost use Rattle.kernel_fs.specs.digester.declared.error.DigestError.TheVariants.{Memory};
 ghost use Rattle.libfs.specs.SealedRegion.{AcceptsLog, DigestsChunk, log_of};
@@ -221,17 +224,23 @@ impl<M: Media> SealedRegion<M> {
     }
 
     /// Has the kernel digest a chunk of it, as `Kernel::digest` does, whose answers and refusals it gives. Its records have to be read, and one of them not digested. Only how many are
-    /// digested changes, and that only where the chunk is.
+    /// digested changes, and that only where the chunk is. What its Swaps enter is told to a chunk that is digested; where one with a Swap is refused by the area, nothing is said of its
+    /// change, and it is to be prepared again.
     pub fn digest<K: Media>(
         &mut self,
         kernel: &mut Kernel<K>,
-        chunk: &Chunk,
+        chunk: &mut Chunk,
     ) -> Result<Digestion, KernelError<DigestError>>
         requires read { self.old.read ≡ true }
         requires some { HasUndigested (log_of M.Media self.old) }
-        requires chunk { IsChunkOf (log_of M.Media self.old) chunk.now }
-        ensures digests { DigestsChunk K.Media kernel.old (log_of M.Media self.old) chunk.now result (log_of M.Media self.new) kernel.new }
+        requires chunk { IsChunkOf (log_of M.Media self.old) chunk.old }
+        ensures digests { DigestsChunk K.Media kernel.old (log_of M.Media self.old) chunk.old result (log_of M.Media self.new) kernel.new }
         ensures rest { self.new ≡ record self.old { done = self.new.done } }
+        ensures chunk_stays { IfOk result (λ a. a ≢ Digested → chunk.new ≡ chunk.old) }
+        ensures chunk_unasked { kernel.old.area.failed ≡ true → chunk.new ≡ chunk.old }
+        ensures chunk_after { IfOk result (λ a. a ≡ Digested → changes_of chunk.new.change.change ≡ chunk_change (graph kernel.old.area.geometry (disk K.Media kernel.old.area)) chunk.old) }
+        ensures chunk_without_swap { chunk.old.change.names ≡ [] → chunk.new ≡ chunk.old }
+        ensures chunk_rest { chunk.new ≡ record chunk.old { change = chunk.new.change } }
     {
         match &mut self.log {
             Some(log) => kernel.digest(log, chunk),

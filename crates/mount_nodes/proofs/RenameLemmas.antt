@@ -1,15 +1,16 @@
 -- What goes before a name moves.
-use Rattle.std.proofs.Common.{◌≡◌, ◌⊎◌, ◌<◌, ◌-◌, ℕ, List, inl, inr, refl, sym, subst, length, false, Option, Some, None, IfErr, IfSome, Result, Ok, Err}
+use Rattle.std.proofs.Common.{◌≡◌, ◌⊎◌, ◌<◌, ◌-◌, ℕ, List, inl, inr, sym, subst, length, IfErr, Result, Ok, Err}
 use Rattle.posix_calls.specs.declared.call.Call.{Call}
 use Rattle.posix_calls.specs.declared.call.Call.TheVariants as call
 use Rattle.posix_calls.specs.declared.call.Reply.{Reply}
 use Rattle.posix_calls.specs.declared.call.Reply.TheVariants as reply
+use Rattle.posix_calls.specs.declared.operation.Description.{Description}
 use Rattle.fuse_wire.specs.declared.errno.Refusal.{Refusal}
 use Rattle.mount_nodes.specs.declared.nodes.Nodes.{Nodes}
 use Rattle.mount_nodes.specs.declared.tree.Tree.{Ghosts}
-use Rattle.mount_nodes.specs.Calls.{Answers, Asks, IsUnasked, MayAsk, done_of, listed_of, refusal_of}
+use Rattle.mount_nodes.specs.Calls.{Answers, Asks, IsUnasked, MayAsk, description_of, listed_of, refusal_of}
 use Rattle.mount_nodes.specs.Refusals.{IsMemory}
-use Rattle.mount_nodes.specs.Renames.{HasTooLong, IsTooDeep, IsUnmoved, LooksBelow, Moves}
+use Rattle.mount_nodes.specs.Renames.{CanNotGrow, HasLooked, HasTooLong, IsTooDeep, IsUnmoved, LooksBelow, Moves}
 use Rattle.mount_nodes.specs.Upkeep.{Behind, IsRefusal, IsUpkeep, Upkeep}
 use Rattle.mount_nodes.proofs.UpkeepLemmas.{done_call, refusal_behind, refusal_for, refused_call, upkeep_none, upkeep_once, upkeep_then}
 
@@ -74,6 +75,44 @@ looks_behind tree growth (Err e) s t u kept (inr deep) = inr (record {
   long = deep.long;
 })
 
+-- what was looked at, upkeep before and behind
+pub looked_behind : {S : Type 0} (tree : Ghosts S) (path : List ℕ) (s t u : S) → Upkeep tree s t → HasLooked tree path t u → HasLooked tree path s u
+looked_behind tree path s t u kept looked = record {
+  before = looked.before;
+  answer = looked.answer;
+  after = looked.after;
+  first = upkeep_then tree s t looked.before kept looked.first;
+  asks = looked.asks;
+  rest = looked.rest;
+}
+
+pub looked_before : {S : Type 0} (tree : Ghosts S) (path : List ℕ) (s t u : S) → HasLooked tree path s t → Upkeep tree t u → HasLooked tree path s u
+looked_before tree path s t u looked kept = record {
+  before = looked.before;
+  answer = looked.answer;
+  after = looked.after;
+  first = looked.first;
+  asks = looked.asks;
+  rest = upkeep_then tree looked.after t u looked.rest kept;
+}
+
+pub looked_kept : {S : Type 0} (tree : Ghosts S) (path : List ℕ) (s t : S) → HasLooked tree path s t → Upkeep tree s t
+looked_kept tree path s t looked =
+    upkeep_then tree s looked.before t looked.first (upkeep_then tree looked.before looked.after t (upkeep_once tree looked.before (call.Stat path) looked.answer looked.after tt looked.asks) looked.rest)
+
+-- a `Stat` of a path
+pub stat_looks : {S : Type 0} (tree : Ghosts S) (path : List ℕ) (d : Description) (s t : S) → MayAsk tree (call.Stat path) description_of Answers (Ok d) s t → HasLooked tree path s t
+stat_looks tree path d s t asked =
+    let got = done_call tree (call.Stat path) description_of d s t asked in
+    record {
+      before = s;
+      answer = got.0;
+      after = t;
+      first = upkeep_none tree s;
+      asks = got.2;
+      rest = upkeep_none tree t;
+    }
+
 -- ---- moves
 
 -- what was looked for refuses the move, or goes before it
@@ -103,3 +142,9 @@ asked_behind tree call read why then (Ok x) s t u f kept (inl (same, never)) = a
 asked_behind tree call read why then (Err e) s t u f kept (inl (same, inl memory)) = inr (inl (inl memory, subst (λ v. Upkeep tree s v) (sym same) kept))
 asked_behind tree call read why then (Err e) s t u f kept (inl (same, inr reason)) = inr (inl (inr (f reason), subst (λ v. Upkeep tree s v) (sym same) kept))
 asked_behind tree call read why then result s t u f kept (inr asked) = inl (t, kept, inr asked)
+
+-- ---- exchanges
+
+-- what was looked for below what gets a longer path refuses the exchange, behind upkeep
+pub grows_not : {S : Type 0} (tree : Ghosts S) (from to : List ℕ) (growth : ℕ) (e : Refusal) (s t u : S) → growth ≡ length to - length from → length from < length to → Upkeep tree s t → LooksBelow tree growth (Err e) t u → CanNotGrow tree from to (Err e) s u
+grows_not tree from to growth e s t u same grown kept looked = (grown, subst (λ g. LooksBelow tree g (Err e) s u) same (looks_behind tree growth (Err e) s t u kept looked))

@@ -1,9 +1,9 @@
 // How long the paths below a directory get where it moves.
-ghost use Rattle.std.specs.Prelude.{◌≡◌, ◌+◌, ◌-◌, ◌<◌, ◌⊎◌, length, IfErr};
+ghost use Rattle.std.specs.Prelude.{◌≡◌, ◌+◌, ◌-◌, ◌<◌, ◌⊎◌, length, IfErr, OnOk};
 ghost use Rattle.posix_calls.specs.declared.errno.Errno.TheVariants as errno;
 ghost use Rattle.fuse_wire.specs.declared.errno.Refusal.TheVariants as refusal;
 ghost use Rattle.mount_nodes.specs.Refusals.{IsMemory};
-ghost use Rattle.mount_nodes.specs.Renames.{HasTooLong, LooksBelow};
+ghost use Rattle.mount_nodes.specs.Renames.{HasLooked, HasTooLong, LooksBelow};
 
 use crate::attributes::stat;
 use crate::directory::list;
@@ -21,25 +21,27 @@ pub(crate) fn check_depth<T: Tree>(
 ) -> Result<(), Refusal>
     ensures looked { LooksBelow T.Tree (len - length path.now) result tree.old tree.new }
     ensures grown { IfErr result (λ e. length path.now < len) }
+    ensures asked { length path.now < len → OnOk result (HasLooked T.Tree path.now tree.old tree.new) }
 {
     let growth = len.saturating_sub(path.len());
     if growth == 0 {
         return Ok(());
     }
-    check_below(alloc, tree, path.to_vec(alloc)?, growth)
+    check_below(alloc, tree, path, growth)
 }
 
 // Refuses it where a path at or below this one gets too long.
 fn check_below<T: Tree>(
     alloc: Global,
     tree: &mut T,
-    path: Vec<u8>,
+    path: &[u8],
     growth: usize,
 ) -> Result<(), Refusal>
-    ensures { LooksBelow T.Tree growth result tree.old tree.new }
+    ensures looked { LooksBelow T.Tree growth result tree.old tree.new }
+    ensures asked { OnOk result (HasLooked T.Tree path.now tree.old tree.new) }
 {
     let mut paths = Vec::new(alloc);
-    paths.push(path)?;
+    add_below(alloc, tree, path, growth, &mut paths)?;
     for _ in 0..u32::MAX {
         match paths.pop() {
             Some(path) => add_below(alloc, tree, &path, growth, &mut paths)?,
@@ -57,7 +59,8 @@ fn add_below<T: Tree>(
     growth: usize,
     paths: &mut Vec<Vec<u8>>,
 ) -> Result<(), Refusal>
-    ensures { LooksBelow T.Tree growth result tree.old tree.new }
+    ensures looked { LooksBelow T.Tree growth result tree.old tree.new }
+    ensures asked { OnOk result (HasLooked T.Tree path.now tree.old tree.new) }
 {
     let description = stat(alloc, tree, path)?;
     match description {

@@ -11,6 +11,7 @@ mod attributes;
 mod depth;
 mod descriptors;
 mod directory;
+mod exchanges;
 mod files;
 mod lookups;
 mod node;

@@ -77,11 +77,10 @@ impl Node {
         }
     }
 
-    /// Takes a name away, if it has it.
-    pub(crate) fn remove_name(&mut self, folder: u64, name: &[u8]) {
-        if let Some(place) = place_of(&self.names, folder, name) {
-            self.names.remove(place);
-        }
+    /// Takes a name away, and answers it, if it has it.
+    pub(crate) fn take_name(&mut self, folder: u64, name: &[u8]) -> Option<NodeName> {
+        let place = place_of(&self.names, folder, name)?;
+        Some(self.names.remove(place))
     }
 }
 

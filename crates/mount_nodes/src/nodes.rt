@@ -3,7 +3,7 @@ ghost use Rattle.std.specs.Option.{option_map};
 ghost use Rattle.mount_nodes.specs.Paths.{node_at};
 ghost use Rattle.mount_nodes.specs.Upkeep.{child_at};
 
-use crate::node::Node;
+use crate::node::{Node, NodeName};
 use posix_calls::Name;
 use std::alloc::{AllocError, Global};
 
@@ -168,7 +168,40 @@ impl Nodes {
     /// Notes that a node has a name no longer, whatever the directory has there now.
     pub(crate) fn forget_name(&mut self, folder: u64, name: &[u8], id: u64) {
         if let Some(node) = self.get_mut(id) {
-            node.remove_name(folder, name);
+            node.take_name(folder, name);
+        }
+    }
+
+    /// Notes that two nodes changed their names, each given by its directory. It takes no memory.
+    pub(crate) fn exchange_names(&mut self, one: (u64, &[u8], u64), other: (u64, &[u8], u64)) {
+        self.set_child(one.0, one.1, other.2);
+        self.set_child(other.0, other.1, one.2);
+        let first = self.take_name(one.0, one.1, one.2);
+        let second = self.take_name(other.0, other.1, other.2);
+        self.give_name(one.2, second);
+        self.give_name(other.2, first);
+    }
+
+    // Sets which node has a name of a directory that has it already.
+    fn set_child(&mut self, folder: u64, name: &[u8], id: u64) {
+        if let Some(folder) = self.get_mut(folder) {
+            if folder.children.get(name).is_some() {
+                folder.children.set(name, id);
+            }
+        }
+    }
+
+    // Takes a name from a node, if it has it.
+    fn take_name(&mut self, folder: u64, name: &[u8], id: u64) -> Option<NodeName> {
+        self.get_mut(id)?.take_name(folder, name)
+    }
+
+    // Gives a node a name in place of one that was taken from it, so that there is room for it.
+    fn give_name(&mut self, id: u64, name: Option<NodeName>) {
+        if let Some(name) = name {
+            if let Some(node) = self.get_mut(id) {
+                let _ = node.names.push(name);
+            }
         }
     }
 

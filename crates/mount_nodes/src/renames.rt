@@ -1,5 +1,5 @@
 // Names move.
-ghost use Rattle.std.specs.Prelude.{◌≡◌, ◌⊎◌, false, IfErr, IfSome};
+ghost use Rattle.std.specs.Prelude.{◌≡◌, ◌⊎◌, false, IfErr, IfSome, OnErr};
 ghost use Rattle.posix_calls.specs.Name.{is_name};
 ghost use Rattle.posix_calls.specs.declared.call.Call.TheVariants as call;
 ghost use Rattle.mount_nodes.specs.Calls.{Answers, Asks, IsUnasked, MayAsk, done_of};
@@ -19,6 +19,9 @@ use std::alloc::Global;
 /// The flag of RENAME2 by which nothing may have the new name.
 const NO_REPLACE: u32 = 1;
 
+/// The flag of RENAME2 by which two names change what they lead to.
+const EXCHANGE: u32 = 2;
+
 /// A name of a directory's node.
 #[derive(Clone, Copy)]
 pub struct Place<'a> {
@@ -27,8 +30,8 @@ pub struct Place<'a> {
 }
 
 impl Tables {
-    /// Moves a name, in place of what has the new one. With the flag `NO_REPLACE` what has it refuses the call; other flags are `Invalid`.
-    /// `NameTooLong` where a path below a directory that moves would pass 1,024 bytes.
+    /// Moves a name, in place of what has the new one. With the flag `NO_REPLACE` what has it refuses the call; with `EXCHANGE` the two names
+    /// change what they lead to; other flags are `Invalid`. `NameTooLong` where a path below a directory that moves would pass 1,024 bytes.
     pub fn rename<T: Tree>(
         &mut self,
         tree: &mut T,
@@ -36,13 +39,15 @@ impl Tables {
         new: Place<'_>,
         flags: u32,
     ) -> Result<(), Refusal>
-        ensures { Renames T.Tree self.old.nodes (old.entry.folder, old.entry.name.now) (new.entry.folder, new.entry.name.now) flags result tree.old tree.new }
+        ensures renames { Renames T.Tree self.old.nodes (old.entry.folder, old.entry.name.now) (new.entry.folder, new.entry.name.now) flags result tree.old tree.new }
+        ensures unexchanged { flags ≡ 2 → OnErr result (self.new ≡ self.old) }
     {
         let from = path_below(self.alloc, &self.nodes, old.folder, old.name)?;
         let to = path_below(self.alloc, &self.nodes, new.folder, new.name)?;
         match flags {
             0 => self.move_path(tree, (old, new), from, to),
             NO_REPLACE => self.move_beside(tree, (old, new), from, to),
+            EXCHANGE => self.exchange(tree, (old, new), from, to),
             _ => Err(Refusal::Posix(Errno::Invalid)),
         }
     }

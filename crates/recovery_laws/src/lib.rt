@@ -9,7 +9,7 @@ mod fresh_laws;
 mod fresh_region;
 mod record_laws;
 mod region_laws;
-mod tier_lens;
+mod tier_sizes;
 mod zero_fill;
 
 pub use area_laws::openable_area_is_within_limits;
@@ -18,7 +18,7 @@ pub use fresh_laws::fresh_area_opens;
 pub use fresh_region::empty_region;
 pub use record_laws::{paid_records_are_covered, recoverable_records_are_covered};
 pub use region_laws::fresh_region_is_empty;
-pub use tier_lens::tier_lens;
+pub use tier_sizes::tier_lens;
 
 /// Of `area_reader`, what the crates above name.
 pub mod in_area_reader {

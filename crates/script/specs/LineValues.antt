@@ -39,6 +39,7 @@ asked_call (text.Rmdir path) = call.Rmdir (path_of path)
 asked_call (text.Link old new) = call.Link (path_of old) (path_of new)
 asked_call (text.Unlink path) = call.Unlink (path_of path)
 asked_call (text.Rename old new) = call.Rename (path_of old) (path_of new)
+asked_call (text.Exchange first second) = call.Exchange (path_of first) (path_of second)
 asked_call (text.List path) = call.List (path_of path)
 asked_call (text.Stat path) = call.Stat (path_of path)
 

@@ -21,6 +21,7 @@ verb w =
     if bytes_eq w (codes "link") then Some verbs.Link else
     if bytes_eq w (codes "unlink") then Some verbs.Unlink else
     if bytes_eq w (codes "rename") then Some verbs.Rename else
+    if bytes_eq w (codes "exchange") then Some verbs.Exchange else
     if bytes_eq w (codes "list") then Some verbs.List else
     if bytes_eq w (codes "stat") then Some verbs.Stat else None
 
@@ -44,6 +45,7 @@ call_for verbs.Rmdir words = option_map (λ p. call.Rmdir p) (one_decoded words)
 call_for verbs.Link words = option_map (λ p. call.Link p.0 p.1) (two_decoded words)
 call_for verbs.Unlink words = option_map (λ p. call.Unlink p) (one_decoded words)
 call_for verbs.Rename words = option_map (λ p. call.Rename p.0 p.1) (two_decoded words)
+call_for verbs.Exchange words = option_map (λ p. call.Exchange p.0 p.1) (two_decoded words)
 call_for verbs.List words = option_map (λ p. call.List p) (one_decoded words)
 call_for verbs.Stat words = option_map (λ p. call.Stat p) (one_decoded words)
 

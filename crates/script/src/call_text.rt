@@ -35,6 +35,7 @@ pub enum Verb {
     Link,
     Unlink,
     Rename,
+    Exchange,
     List,
     Stat,
 }
@@ -80,6 +81,10 @@ pub enum CallText<'a> {
         old: PathText<'a>,
         new: PathText<'a>,
     },
+    Exchange {
+        first: PathText<'a>,
+        second: PathText<'a>,
+    },
     List {
         path: PathText<'a>,
     },
@@ -123,6 +128,7 @@ pub fn verb_of(word: &[u8]) -> Option<Verb>
         "link" => Some(Verb::Link),
         "unlink" => Some(Verb::Unlink),
         "rename" => Some(Verb::Rename),
+        "exchange" => Some(Verb::Exchange),
         "list" => Some(Verb::List),
         "stat" => Some(Verb::Stat),
         _ => None,
@@ -161,6 +167,10 @@ pub fn call_of(verb: Verb, words: &[u8]) -> Option<CallText<'_>>
         Verb::Rename => {
             let (old, new) = two_paths(words)?;
             Some(CallText::Rename { old, new })
+        }
+        Verb::Exchange => {
+            let (first, second) = two_paths(words)?;
+            Some(CallText::Exchange { first, second })
         }
     }
 }
@@ -227,8 +237,8 @@ fn one_path(words: &[u8]) -> Option<PathText<'_>>
 fn two_paths(words: &[u8]) -> Option<(PathText<'_>, PathText<'_>)>
     ensures { option_map (λ r. (path_of r.0, path_of r.1)) result ≡ two_decoded (parts 32 words.now) }
 {
-    let (old, new) = two_words(words)?;
-    Some((PathText::read(old)?, PathText::read(new)?))
+    let (first, second) = two_words(words)?;
+    Some((PathText::read(first)?, PathText::read(second)?))
 }
 
 impl CallText<'_> {
@@ -271,7 +281,7 @@ impl CallText<'_> {
         }
     }
 
-    // The same of a call that makes or removes a name, or describes a node.
+    // The same of a call that makes, removes or exchanges names, or describes a node.
     fn to_name_call(&self, alloc: Global) -> Result<Call, AllocError>
         ensures { IfOk result (λ call. call ≡ asked_call self.now) }
     {
@@ -285,6 +295,11 @@ impl CallText<'_> {
                 let old = old.to_bytes(alloc)?;
                 let new = new.to_bytes(alloc)?;
                 Ok(Call::Rename { old, new })
+            }
+            CallText::Exchange { first, second } => {
+                let first = first.to_bytes(alloc)?;
+                let second = second.to_bytes(alloc)?;
+                Ok(Call::Exchange { first, second })
             }
             CallText::Mkdir { path } => Ok(Call::Mkdir {
                 path: path.to_bytes(alloc)?,

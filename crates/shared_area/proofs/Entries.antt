@@ -5,6 +5,7 @@ use Rattle.std.specs.FinMap as fin
 use Rattle.std.proofs.lemmas.List.{ext_get_or}
 use Rattle.std.proofs.lemmas.List.FromFn.{length-map-range_with_len}
 use Rattle.std.proofs.lemmas.Option.{get_or_from_slice_get}
+use Rattle.record_validation.specs.file_graph.Graph.{directory_in}
 use Rattle.record_validation.specs.call_effects.NodeView.{FileView, view_at, view_of_node}
 use Rattle.record_validation.specs.Counts.{counts_of}
 use Rattle.record_validation.specs.declared.node_counts.NodeCounts.{NodeCounts}
@@ -101,6 +102,9 @@ module _ (g : Sizes) (s : Store) (i : ℕ) where
 
   pub no_view : is_inode i ≡ false → None ≡ view_at (graph g s) i
   no_view none = sym (ap (λ (x : Slot). option_map view_of_node (node_of (inode_of x (logical_block g s i)))) (no_slot g s i none))
+
+  pub no_directory : is_inode i ≡ false → None ≡ directory_in (graph g s i)
+  no_directory none = sym (ap (λ (x : Slot). directory_in (node_of (inode_of x (logical_block g s i)))) (no_slot g s i none))
 
 -- ---- its numbers
 

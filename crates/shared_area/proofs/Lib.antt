@@ -5,6 +5,7 @@ pub mod Files
 pub mod FirstRuns
 pub mod Counts
 pub mod Entries
+pub mod Leads
 pub mod Wants
 pub mod Moved
 mod AppliedChange

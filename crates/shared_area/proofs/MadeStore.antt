@@ -5,6 +5,7 @@ use Rattle.std.specs.FinMap as fin
 use Rattle.std.specs.List.{Contains}
 use Rattle.std.proofs.lemmas.Bool.{cases_Bool, cond-true, cond-false, true≢false}
 use Rattle.std.proofs.lemmas.List.{length-map}
+use Rattle.posix_calls.specs.declared.limits.TheConstants.{MAX_INODE}
 use Rattle.area_reader.specs.graph_change.Change.{Changes}
 use Rattle.area_reader.specs.layout.declared.marks.Marks.{Marks}
 use Rattle.area_reader.specs.layout.declared.slot.Slot.{Slot}
@@ -54,7 +55,7 @@ module _ (g : Sizes) (s : Store) (cs : Changes) (touch : ℕ) (plan : PartialPla
   module _ (read : (x : Slot) → fits_slot g x ≡ true → slot_of g (slot_spelling x) ≡ Some x) (new : Store) (out : IsCarriedOut g s (whole_of plan taken marks) new) where
     its_slot : (x : ChangedSlot) → Contains plan.slots.items x → slot_read g new x.inode ≡ Some x.slot
     its_slot x at =
-        let range = within 1 1024 plan.slots.items x whole.first.parts.rise at in
+        let range = within 1 MAX_INODE plan.slots.items x whole.first.parts.rise at in
         slot_is g new x.inode (slot_spelling x.slot) (Some x.slot) range.0 range.1 (sym (out.slots_put x at)) (read x.slot (planned_fits x at))
 
     each_has : (xs : List ChangedSlot) → ((x : ChangedSlot) → Contains xs x → Contains plan.slots.items x) → HaveSlots g new (map (λ (x : ChangedSlot). x.inode) xs) xs

@@ -8,6 +8,7 @@ ghost use Rattle.area_reader.specs.batch_journal.Blocks.{opening_calls};
 ghost use Rattle.area_reader.specs.batch_journal.Course.{Since, Unmoved};
 ghost use Rattle.area_reader.specs.batch_journal.Damage.{AwaitsReplay};
 ghost use Rattle.area_reader.specs.batch_journal.Volume.{IsVolume, SameJournal};
+ghost use Rattle.record_validation.specs.file_graph.Graph.{directory_in};
 ghost use Rattle.record_validation.specs.file_graph.Units.{charge};
 ghost use Rattle.area_reader.specs.graph_change.Bounds.{AreBounded};
 ghost use Rattle.area_reader.specs.graph_change.Change.{changed_graph};
@@ -45,7 +46,7 @@ use crate::digest_number::{find_touch, find_touch_in};
 use crate::file_read::read_file;
 use crate::graph_update::{MarkedChange, make_change};
 use crate::media_contents::{journal_fault, read_contents};
-use crate::node::find_node;
+use crate::node::{find_directory, find_node};
 use crate::run_search::find_first_run;
 use crate::slot_counts::find_counts;
 use area_reader::AreaError;
@@ -54,6 +55,7 @@ use area_reader::in_graph_change::GraphChange;
 use area_reader::in_layout::{Geometry, Marks};
 use block_alloc::Run;
 use change_plan::in_area_commit::Pools;
+use record_validation::in_file_graph::{Child, NameMap};
 use record_validation::{NodeCounts, NodeSummary};
 use relocation::{RunRequest, relocate};
 use std::alloc::Global;
@@ -148,6 +150,17 @@ impl<M: Media> Shared<M> {
     {
         let alloc = self.alloc;
         find_node(alloc, &mut self.journal, inode)
+    }
+
+    /// The entries of the directory at an inode, by name; `None` where there is none. It reads what `node` reads, and is refused as that is.
+    pub fn directory(&mut self, inode: u32) -> Result<Option<NameMap<Child>>, AreaError>
+        ensures directory { IfOk result (λ x. x ≡ directory_in (graph self.old.geometry (disk M.Media self.old) inode)) }
+        ensures only { IfErr result IsNoDamage }
+        ensures memory { IfErr result (λ e. e ≡ Memory → WantsMemory self.old.geometry (disk M.Media self.old) inode) }
+        ensures looks { Looks M.Media self.old self.new result }
+    {
+        let alloc = self.alloc;
+        find_directory(alloc, &mut self.journal, inode)
     }
 
     /// What stands at an inode by its numbers: a file with its size, a directory with how many entries it has, each with how many names it has; `None` where nothing does. It

@@ -17,7 +17,7 @@ Behind each call here is what it prints; one that fails prints why, as ENOENT.
   pwrite FD OFFSET DATA    wrote N         list PATH    names NAME NAME ...
 These print ok:
   close FD       truncate PATH LENGTH    mkdir PATH      rmdir PATH
-  unlink PATH    link OLD NEW            rename OLD NEW
+  unlink PATH    link OLD NEW            rename OLD NEW  exchange PATH PATH
 What a call needs is served, and others hand over what they hold. Behind try
 they do not: then, or where one is in the midst of a call, it prints blocked.
 Behind begin a call that writes is begun alone, and prints pending.

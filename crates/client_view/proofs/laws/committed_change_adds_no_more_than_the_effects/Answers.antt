@@ -8,5 +8,5 @@ use Rattle.client_view.proofs.laws.committed_change_adds_no_more_than_the_effect
 pub returns : goal.returns
 returns c = record {
   none = λ k new operation es off. subst (λ (made : Option ℕ). IsForgetful (knows_after k new operation es) (knows_logged k es made (change_of new operation))) (sym (ap (λ b. cond b (Some new) None) off)) (no_less k new operation es off);
-  made = λ k new operation es on. subst (λ (made : Option ℕ). IsForgetful (knows_made k new operation es) (knows_logged k es made (change_of new operation))) (sym (ap (λ b. cond b (Some new) None) on)) (one_less k new operation es on);
+  made = λ k call new operation es plan on. subst (λ (made : Option ℕ). IsForgetful (knows_made k new operation es) (knows_logged k es made (change_of new operation))) (sym (ap (λ b. cond b (Some new) None) on)) (one_less k new operation es call plan on);
 }

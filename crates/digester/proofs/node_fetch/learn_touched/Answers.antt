@@ -13,20 +13,20 @@ loop-effect-preserved g c =
     let es = c.args.effects.now in
     let k = c.loop-effect.effect-index in
     let effect = c.effect-item.result in
-    let told = c.in_ok-learn.ensures in
+    let told = c.in_ok-learn_subjects.ensures in
     let same = c.loop-effect.invariant.stays in
     record {
       stays = told.stays ∙ same;
-      come = λ h come. subst (λ (G : Graph). HasCome c.learn.new.check G h) same (told.come h (subst (λ (G : Graph). HasCome c.loop-effect.check G h) (sym same) (c.loop-effect.invariant.come h come)));
-      known = more_known c.loop-effect.check.known c.learn.new.check.known es k c.subject.result effect c.loop-effect-test.true c.effect-item.is c.subject.ensures.alone c.loop-effect.invariant.known told.known told.others;
-      asked = λ first among all before. told.answered first among (all c.subject.result (touched_at es k effect c.subject.result c.loop-effect-test.true c.effect-item.is c.subject.ensures.alone)) (c.loop-effect.invariant.asked first among all before);
+      come = λ h come. subst (λ (G : Graph). HasCome c.learn_subjects.new.check G h) same (told.come h (subst (λ (G : Graph). HasCome c.loop-effect.check G h) (sym same) (c.loop-effect.invariant.come h come)));
+      known = more_known c.loop-effect.check.known c.learn_subjects.new.check.known es k effect c.loop-effect-test.true c.effect-item.is c.loop-effect.invariant.known told.known told.others;
+      asked = λ first among all before. told.answered first among (λ i its. all i (touched_at es k effect c.loop-effect-test.true c.effect-item.is i its)) (c.loop-effect.invariant.asked first among all before);
     }
 
-pub returns-in_err-learn-clause-refused : goal.returns-in_err-learn-clause-refused
-returns-in_err-learn-clause-refused g c =
+pub returns-in_err-learn_subjects-clause-refused : goal.returns-in_err-learn_subjects-clause-refused
+returns-in_err-learn_subjects-clause-refused g c =
     let p = err_from_is_err_and c.from_residual.result c.from_residual.ensures.1 in
     rw (p.1, p.2)
-    (λ first among all before. c.in_err-learn.ensures.refused first among (all c.subject.result (touched_at c.args.effects.now c.loop-effect.effect-index c.effect-item.result c.subject.result c.loop-effect-test.true c.effect-item.is c.subject.ensures.alone)) (c.loop-effect.invariant.asked first among all before))
+    (λ first among all before. c.in_err-learn_subjects.ensures.refused first among (λ i its. all i (touched_at c.args.effects.now c.loop-effect.effect-index c.effect-item.result c.loop-effect-test.true c.effect-item.is i its)) (c.loop-effect.invariant.asked first among all before))
 
 pub returns-clause-known : goal.returns-clause-known
 returns-clause-known g c =

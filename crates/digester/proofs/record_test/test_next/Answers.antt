@@ -1,4 +1,4 @@
-use Rattle.std.proofs.Common.{List, sym, subst, ◌∙◌}
+use Rattle.std.proofs.Common.{List, sym, subst}
 use Rattle.std.proofs.lemmas.Result.{err_from_is_err_and}
 use Rattle.update_log.specs.file_graph.declared.effect.Effect.{Effect}
 use Rattle.update_log.specs.file_graph.Graph.{touches}

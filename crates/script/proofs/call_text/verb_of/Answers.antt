@@ -17,6 +17,7 @@ returns-in_default c =
       no_name w (codes "link") refl none,
       no_name w (codes "unlink") refl none,
       no_name w (codes "rename") refl none,
+      no_name w (codes "exchange") refl none,
       no_name w (codes "list") refl none,
       no_name w (codes "stat") refl none,
     ) refl

@@ -1,10 +1,11 @@
 use Rattle.std.proofs.Common.{◌≡◌, ℕ, List, Bool, true, refl, sym, ◌∙◌, subst}
-use Rattle.std.specs.Prelude.{is_some}
+use Rattle.std.specs.Prelude.{IfSome, is_some}
 use Rattle.std.proofs.lemmas.Bool.{true≢false}
 use Rattle.client_log.specs.Counts.{AreLeft, CountOf}
 use Rattle.client_log.specs.Regions.{IsWritten}
+use Rattle.client_log.specs.Turns.{record_appended, turn_of}
 use Rattle.client_log.specs.View.{LogView, current_records}
-use Rattle.client_log.proofs.Begun.{begun_ready, step_failed}
+use Rattle.client_log.proofs.Begun.{append_ends, begun_ready, step_failed}
 use Rattle.client_log.proofs.Sound.{append_counts, now_counts, sound_current, sound_failed}
 use Rattle.client_log.proofs.client_log.ClientLog.step.Goals as goal
 
@@ -47,3 +48,13 @@ returns-in-Err-clause-any_moment g c =
     let some : is_some s.current.begun ≡ true = subst (λ (v : LogView _). is_some v.current.begun ≡ true) (sym c.self.view_is) c.requires in
     subst (λ (v : LogView _). (regions : ℕ → List ℕ) → AreLeft m v new regions → CountOf v.generation (is_some v.other) (current_records m v) v.current.begun regions) c.self.view_is
     (append_counts m old new c.self.invariant (begun_ready m old c.self.invariant some) refl c.step-stepped.ensures.any_moment)
+
+pub returns-in-Ok-clause-appended : goal.returns-in-Ok-clause-appended
+returns-in-Ok-clause-appended g c = λ last.
+    let m = g.M.Media in
+    let s = c.self.inside in
+    let old : LogView _ = record { generation = s.generation; current = s.current; ready = s.ready; other = s.other; clean = s.clean; failed = s.failed } in
+    let new : LogView _ = record { generation = s.generation; current = c.step-stepped.new.self; ready = s.ready; other = s.other; clean = s.clean; failed = s.failed } in
+    let e = c.in-Ok.ensures in
+    subst (λ (v : LogView _). IfSome v.current.begun (λ r. turn_of m new ≡ record_appended (turn_of m v) r)) c.self.view_is
+    (append_ends m old c.step-stepped.new.self c.self.invariant (sym e.progress ∙ last) e.stage e.appended c.left_now-2.ensures.none)

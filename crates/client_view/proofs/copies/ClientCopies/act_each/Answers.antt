@@ -1,9 +1,7 @@
-use Rattle.std.proofs.Common.{refl, sym, ◌∙◌, arith, rules}
-use Rattle.client_plan.specs.file_graph.Subject.{subject}
+use Rattle.std.proofs.Common.{refl, ◌∙◌, arith, rules}
 use Rattle.client_view.specs.KnowledgeTables.{knows}
-use Rattle.client_view.proofs.LeftBlocks.{left_all, left_alone, left_next, left_none}
+use Rattle.client_view.proofs.LeftBlocks.{left_all, left_next, left_none}
 use Rattle.client_view.proofs.Rooms.{is_room, known_all, known_next, known_none}
-use Rattle.client_view.proofs.Untouched.{alone}
 use Rattle.client_view.proofs.copies.ClientCopies.act_each.Goals as goal
 
 pub loop-place-init : goal.loop-place-init
@@ -19,8 +17,8 @@ pub loop-place-preserved : goal.loop-place-preserved
 loop-place-preserved c =
     let e = c.index-effects-place.result in
     record {
-      known = known_next (knows c.args.self.now) (knows c.loop-place.self) (knows c.act_in_place.new.self) c.args.effects.now c.loop-place.place e (subject e) c.loop-place-test.true (search rules) (alone e) c.loop-place.invariant.known c.act_in_place.ensures.known;
-      order = left_next c.args.self.now.blocks c.loop-place.self.blocks c.act_in_place.new.self.blocks c.args.effects.now c.loop-place.place e (subject e) c.loop-place-test.true (search rules) (alone e) c.loop-place.invariant.order (c.act_in_place.ensures.order ∙ sym (left_alone c.loop-place.self.blocks e (subject e) (alone e)));
+      known = known_next (knows c.args.self.now) (knows c.loop-place.self) (knows c.act_in_place.new.self) c.args.effects.now c.loop-place.place e c.loop-place-test.true (search rules) c.loop-place.invariant.known c.act_in_place.ensures.known;
+      order = left_next c.args.self.now.blocks c.loop-place.self.blocks c.act_in_place.new.self.blocks c.args.effects.now c.loop-place.place e c.loop-place-test.true (search rules) c.loop-place.invariant.order c.act_in_place.ensures.order;
       rooms = λ n at. c.take_room-room.ensures.rest n (omega (arith, at)) ∙ c.loop-place.invariant.rooms n (omega (arith, at));
     }
 
