@@ -1,0 +1,17 @@
+pub mod Bools
+pub mod WorldSteps
+pub mod Grants
+pub mod Plain
+pub mod Keeping
+pub mod Parts
+pub mod Local
+pub mod AwayRegions
+pub mod Turns
+pub mod Leases
+pub mod Consistent
+pub mod Together
+pub mod MayBeSaid
+pub mod Entries
+pub mod SmallHistories
+pub mod Listings
+pub mod Whole
