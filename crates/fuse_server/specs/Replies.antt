@@ -2,6 +2,7 @@
 use Rattle.std.specs.Prelude.{◌≡◌, ◌⊎◌, ◌<◌, ◌≤◌, ◌+◌, ℕ, List, [], ◌++◌, length, min, if◌then◌else◌}
 use Rattle.std.specs.Int.{div_ceil}
 use Rattle.posix_calls.specs.declared.errno.Errno.TheVariants as errno
+use Rattle.posix_calls.specs.declared.limits.TheConstants.{MAX_FILE}
 use Rattle.fuse_wire.specs.declared.errno.Refusal.TheVariants as refusal
 use Rattle.fuse_wire.specs.declared.header.Header.{Header}
 use Rattle.fuse_wire.specs.declared.replies.Attr.{Attr}
@@ -51,7 +52,7 @@ entry_of h generation a = record { node = a.node; generation = generation; entry
 abbrev pub stat_fs_of : Usage → StatFs
 stat_fs_of usage = record { blocks = usage.units; blocks_free = usage.free; blocks_available = usage.free; files = 1024; files_free = min usage.free 1024; block_size = 4096; name_len = 64 }
 
--- The bytes of a server's reply carry this answer; no file has more bytes than 1,048,576.
+-- The bytes of a server's reply carry this answer; no file has more bytes than the greatest.
 abbrev pub Carries : Server → Header → Answer → List ℕ → Type 0
 Carries server h answer.Done reply = reply ≡ reply_bytes h.unique []
 Carries server h (answer.Refused why) reply = reply ≡ error_bytes h.unique (refusal_number why)
@@ -59,7 +60,7 @@ Carries server h (answer.Agreed agreed) reply = reply ≡ reply_bytes h.unique (
 Carries server h (answer.Entry a) reply = (generation : ℕ) × (reply ≡ reply_bytes h.unique (entry_bytes (entry_of h generation a)))
 Carries server h answer.Absence reply = reply ≡ reply_bytes h.unique (fields_bytes (absence_fields for_ever))
 Carries server h (answer.Attributes a) reply = reply ≡ reply_bytes h.unique (fields_bytes (valid_fields for_ever) ++ attr_bytes (attr_of h a))
-Carries server h (answer.Data bytes) reply = (length bytes ≤ 1048576 → reply ≡ reply_bytes h.unique bytes) × (1048576 < length bytes → reply ≡ error_bytes h.unique (refusal_number (refusal.Posix errno.IoError)))
+Carries server h (answer.Data bytes) reply = (length bytes ≤ MAX_FILE → reply ≡ reply_bytes h.unique bytes) × (MAX_FILE < length bytes → reply ≡ error_bytes h.unique (refusal_number (refusal.Posix errno.IoError)))
 Carries server h (answer.Count count) reply = reply ≡ reply_bytes h.unique (fields_bytes (count_fields count))
 Carries server h (answer.Opened handle) reply = reply ≡ reply_bytes h.unique (fields_bytes (open_fields (record { handle = handle; flags = 2 })))
 Carries server h (answer.Created a) reply = (generation : ℕ) × (reply ≡ reply_bytes h.unique (entry_bytes (entry_of h generation a) ++ fields_bytes (open_fields (record { handle = 0; flags = 2 }))))

@@ -1,6 +1,7 @@
 // What is answered, as the messages of the protocol carry it.
 ghost use Rattle.std.specs.Prelude.{◌≡◌, ◌+◌, ◌<◌, ◌≤◌, length, OnOk, IsOk, vec_capacity};
 ghost use Rattle.posix_calls.specs.declared.errno.Errno.TheVariants as errno;
+ghost use Rattle.posix_calls.specs.declared.limits.TheConstants.{MAX_FILE};
 ghost use Rattle.fuse_wire.specs.declared.errno.Refusal.TheVariants as refusal;
 ghost use Rattle.fuse_wire.specs.Errno.{refusal_number};
 ghost use Rattle.fuse_wire.specs.Replies.{error_bytes, reply_bytes};
@@ -143,9 +144,9 @@ pub(crate) fn write_refusal(
 // No file has more bytes than the greatest.
 fn write_bytes(reply: &mut Vec<u8>, unique: u64, bytes: &[u8]) -> Result<(), AllocError>
     ensures reply { OnOk result (IsReply unique reply.new.items) }
-    ensures bytes { length bytes.now ≤ 1048576 → OnOk result (reply.new.items ≡ reply_bytes unique bytes.now) }
+    ensures bytes { length bytes.now ≤ MAX_FILE → OnOk result (reply.new.items ≡ reply_bytes unique bytes.now) }
     ensures room { 272 ≤ vec_capacity reply.old → 16 + length bytes.now ≤ vec_capacity reply.old → IsOk result }
-    ensures long { 1048576 < length bytes.now → OnOk result (reply.new.items ≡ error_bytes unique (refusal_number (refusal.Posix errno.IoError))) }
+    ensures long { MAX_FILE < length bytes.now → OnOk result (reply.new.items ≡ error_bytes unique (refusal_number (refusal.Posix errno.IoError))) }
 {
     if bytes.len() as u64 > MAX_FILE {
         return write_refusal(reply, unique, Refusal::Posix(Errno::IoError));

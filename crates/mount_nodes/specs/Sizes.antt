@@ -5,6 +5,7 @@ use Rattle.posix_calls.specs.declared.call.Call.TheVariants as call
 use Rattle.posix_calls.specs.declared.call.Reply.{Reply}
 use Rattle.posix_calls.specs.declared.call.Reply.TheVariants as reply
 use Rattle.posix_calls.specs.declared.errno.Errno.TheVariants as errno
+use Rattle.posix_calls.specs.declared.limits.TheConstants.{MAX_FILE}
 use Rattle.fuse_wire.specs.declared.errno.Refusal.{Refusal}
 use Rattle.fuse_wire.specs.declared.errno.Refusal.TheVariants as refusal
 use Rattle.mount_nodes.specs.declared.attributes.Attributes.{Attributes}
@@ -47,10 +48,10 @@ module _ {S : Type 0} (tree : Ghosts S) where
   Fills kept size number result s t = (end : Result (Unit {0}) Refusal) × WritesZeros number (zeros_from kept.size size) (max kept.size size) end s t
       × MatchResult end (λ _. (changed : ℕ) × (result ≡ Ok (resized kept size changed))) (λ e. result ≡ Err e)
 
-  -- so it is by its descriptor, up to 1,048,576 bytes
+  -- so it is by its descriptor, up to the bytes of the greatest file
   abbrev pub ResizesUnnamed : Nodes → ℕ → Attributes → ℕ → Result Attributes Refusal → S → S → Type 0
   ResizesUnnamed nodes id kept size result s t =
-      ((1048576 < size) × (result ≡ Err (refusal.Posix errno.FileTooBig)) × (t ≡ s)) ⊎ ((size ≤ 1048576) × ByDescriptor tree nodes id (Fills kept size) result s t)
+      ((MAX_FILE < size) × (result ≡ Err (refusal.Posix errno.FileTooBig)) × (t ≡ s)) ⊎ ((size ≤ MAX_FILE) × ByDescriptor tree nodes id (Fills kept size) result s t)
 
   -- A file that has a name gets its size by `Truncate` at its path, and its attributes are those of `Stat`; one without is filled with zeros by its descriptor.
   abbrev pub Resizes : Nodes → ℕ → ℕ → Result Attributes Refusal → S → S → Type 0
