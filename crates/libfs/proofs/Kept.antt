@@ -10,6 +10,7 @@ use Rattle.block_cache.specs.CacheList.{Block}
 use Rattle.lease_manager.specs.log_record.declared.format.Record.{Record}
 use Rattle.client_log.specs.update_log.Frames.{with_record}
 use Rattle.lease_manager.specs.Words.{HasWord}
+use Rattle.lease_manager.specs.LeaseCounts.{CountsAs}
 use Rattle.lease_manager.specs.Passes.{PassView, client_of, records_of, without_lease}
 use Rattle.client_log.specs.Turns.{Turn, turn_of}
 use Rattle.client_log.specs.View.{LogView, current_records}
@@ -67,6 +68,11 @@ still_prepared k rs c p = record { spelled = p.spelled; made = p.made; number = 
 
 sum_moves : (new old more : ℕ) → new + more ≡ old → (rest : ℕ) → old ≡ more + rest → new ≡ rest
 sum_moves new old more is rest all = omega arith
+
+-- with one record more there is one
+pub never_none : (rs : List Record) (r : Record) → rs ++ r ∷ [] ≡ [] → ⊥
+never_none [] r is = cc
+never_none (x ∷ rs) r is = cc
 
 -- ---- copies of what records touch
 
@@ -399,3 +405,21 @@ module _ {M : Type 0} (device : Ghosts M) (leases : TableId) where
       copied_before = λ i some. subst (λ (cs : List (Option (Option NodeView))). IsSome (copy_at cs i)) (sym same) (s.copied_before i some);
       failed = λ is. absurd (false≢true is);
     }
+
+  -- all leases are given and all is forgotten, where none of its records is undigested
+  pub sound_emptied : (pass : PassView) (log : LogView M) (copies : Held) (begun : Option Begun) (answered : Bool) (kept : Kept) → IsSound device leases pass log copies begun answered kept → (given : PassView) (new : Held) → with_record (kept.away ++ kept.current) (begun_record begun) ≡ []
+      → CountsAs pass given → new.client ≡ copies.client → IsSound device leases given log new begun false kept
+  sound_emptied pass log copies (Some b) answered kept s given new none same client = absurd (never_none (kept.away ++ kept.current) b.change.logged none)
+  sound_emptied pass log copies None answered kept s given new none same client = record {
+    table = same.table ∙ s.table;
+    number = client ∙ s.number ∙ sym (ap (λ n. n + 1) same.place);
+    written_is = s.written_is;
+    back = s.back;
+    begins = s.begins;
+    prepared = none_some _;
+    room = λ some. absurd (false≢true some);
+    counts = λ i w. ap (λ (l : List ℕ). records_of (record pass { records = l }) i) same.records ∙ s.counts i w;
+    copied = none_touched (kept.away ++ kept.current) None (knows new) none;
+    copied_before = none_touched (kept.away ++ kept.current) None (knows new) none;
+    failed = λ is. absurd (false≢true is);
+  }
