@@ -5,7 +5,7 @@ pub mod ForgottenBlocks
 pub mod Inodes
 pub mod Joined
 pub mod Known
-pub mod Nothing
+mod Nothing
 pub mod Numbers
 pub mod Preparable
 pub mod Put

@@ -1,5 +1,5 @@
 -- What a client has left as it is emptied.
-use Rattle.std.proofs.Common.{◌≡◌, ℕ, Bool, List, [], ◌++◌, refl, sym, ◌∙◌, ap}
+use Rattle.std.proofs.Common.{◌≡◌, ℕ, Bool, List, [], ◌∷◌, ◌++◌, length, refl, sym, ◌∙◌, ap}
 use Rattle.std.specs.Prelude.{Option, Some, None}
 use Rattle.atomic_table.specs.Seated.{TableId}
 use Rattle.tier_device.specs.declared.media.Media.{Ghosts}
@@ -28,3 +28,11 @@ module _ {M : Type 0} (device : Ghosts M) (leases : TableId) (pass : PassView) (
 pub none_begun : (begun : Option Begun) → begun_record begun ≡ None → begun ≡ None
 none_begun None is = refl
 none_begun (Some b) is = absurd (cc)
+
+-- with no record kept and none begun it has none
+pub nothing_left : (away current : List Record) (begun : Option Begun) → away ≡ [] → current ≡ [] → begun ≡ None → with_record (away ++ current) (begun_record begun) ≡ []
+nothing_left away current begun none empty idle = ap (λ (o : Option Begun). with_record (away ++ current) (begun_record o)) idle ∙ ap (λ (l : List Record). l ++ current) none ∙ empty
+
+pub none_of_them : (rs : List Record) → length rs ≡ 0 → rs ≡ []
+none_of_them [] is = refl
+none_of_them (r ∷ rs) is = absurd (cc)

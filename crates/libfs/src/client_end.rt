@@ -41,6 +41,9 @@ impl<M: Media> Client<M> {
         ensures stage { self.old.log.failed ≡ false → IsSome self.old.begun → OnOk result (self.new.log.current.stage ≡ stages.Resting) }
         ensures stage_failed { self.old.log.failed ≡ false → OnErr result (self.new.log.current.stage ≡ stages.Failed) }
         ensures rest { self.new.log ≡ record self.old.log { current = self.new.log.current; failed = self.new.log.failed } }
+        // Its leases stay, and the records of the region that is away.
+        ensures leases { self.new.pass ≡ record self.old.pass { records = self.new.pass.records } }
+        ensures sealed { self.new.sealed ≡ self.old.sealed }
         ensures stays_failed { self.old.log.failed ≡ true → (result ≡ Err DeviceFault) × (self.new ≡ self.old) }
     {
         // For the proof: what a stop leaves where no device call is made.
@@ -65,6 +68,9 @@ impl<M: Media> Client<M> {
         ensures stage { OnOk result (self.new.log.current.stage ≡ stages.Resting) }
         ensures stage_failed { OnErr result (self.new.log.current.stage ≡ stages.Failed) }
         ensures rest { self.new.log ≡ record self.old.log { current = self.new.log.current; failed = self.new.log.failed } }
+        // Its leases stay, and the records of the region that is away.
+        ensures leases { self.new.pass ≡ record self.old.pass { records = self.new.pass.records } }
+        ensures sealed { self.new.sealed ≡ self.old.sealed }
     {
         match self.log.settle() {
             Ok(true) => {
@@ -132,7 +138,7 @@ impl<M: Media> Client<M> {
     fn unburied(&self) -> usize
         ensures { result ≡ unburied M.Media self.now }
     {
-        let begun = if self.begun.is_some() { 1 } else { 0 };
+        let begun: usize = if self.begun.is_some() { 1 } else { 0 };
         self.records.sealed_records().len() + self.records.current().len() + begun
     }
 

@@ -123,6 +123,8 @@ impl<M: Media> Remains<M> {
         ensures stage { self.old.client.log.failed ≡ false → IsSome self.old.client.begun → OnOk result (self.new.client.log.current.stage ≡ stages.Resting) }
         ensures stage_failed { self.old.client.log.failed ≡ false → OnErr result (self.new.client.log.current.stage ≡ stages.Failed) }
         ensures rest { self.new.client.log ≡ record self.old.client.log { current = self.new.client.log.current; failed = self.new.client.log.failed } }
+        ensures leases { self.new.client.pass ≡ record self.old.client.pass { records = self.new.client.pass.records } }
+        ensures sealed { self.new.client.sealed ≡ self.old.client.sealed }
         ensures stays_failed { self.old.client.log.failed ≡ true → (result ≡ Err DeviceFault) × (self.new ≡ self.old) }
         ensures life { self.new.life ≡ life_settled result }
     {

@@ -1,5 +1,5 @@
-use Rattle.std.proofs.Common.{◌≤◌, inl, inr, length, sym, ◌∙◌, subst, arith}
-use Rattle.client_view.proofs.Nothing.{beyond_slots, slot_more}
+use Rattle.std.proofs.Common.{◌∙◌}
+use Rattle.client_view.proofs.Nothing.{slot_more}
 use Rattle.client_view.proofs.slots.forget_slots.Goals as goal
 
 pub loop-place-preserved : goal.loop-place-preserved

@@ -1,4 +1,4 @@
-use Rattle.std.proofs.Common.{◌≡◌, ◌<◌, ◌×◌, ℕ, None, length}
+use Rattle.std.proofs.Common.{◌≡◌, ◌<◌, ℕ, None, length}
 use Rattle.client_view.specs.KnowledgeTables.{copy_at}
 use Rattle.client_view.proofs.slots.forget_slots.Given as goal
 
