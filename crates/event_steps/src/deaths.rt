@@ -41,7 +41,7 @@ impl<M: Media> ClientSlot<M> {
         match self.client.settle() {
             Ok(fate) => {
                 self.life = Life::Settled {
-                    found: fate.found(),
+                    found: fate.kind(),
                 };
                 Outcome::Settled { fate }
             }

@@ -12,7 +12,9 @@ ghost use Rattle.lease_manager.specs.Passes.{records_of};
 ghost use Rattle.lease_manager.specs.RecordCounts.{HasUncounted, is_touched, one_if};
 ghost use Rattle.lease_manager.specs.Words.{HasWord};
 ghost use Rattle.libfs.specs.ClientEnd.{Buries, CanBeRenewed, IsEmptied, IsRenewed, Settles, unburied};
+ghost use Rattle.libfs.specs.ClientHoldings.{known_to};
 ghost use Rattle.libfs.specs.View.{own_records};
+ghost use Rattle.client_view.specs.KnowledgeChanges.{all_closed};
 
 use crate::begun_record::Begun;
 use crate::bury_error::BuryError;
@@ -52,10 +54,19 @@ impl<M: Media> Client<M> {
             return Err(LogError::DeviceFault);
         }
         if self.begun.is_none() {
-            self.copies.close_all();
+            self.close_idle();
             return Ok(Fate::None);
         }
         self.settle_begun()
+    }
+
+    // Closes all that the client has open, where no call waits.
+    fn close_idle(&mut self)
+        requires { self.old.begun ≡ None }
+        ensures known { known_to self.new ≡ all_closed (known_to self.old) }
+        ensures rest { self.new ≡ record self.old { copies = record self.old.copies { own = self.new.copies.own } } }
+    {
+        self.copies.close_all();
     }
 
     // The same, where a call waits.
@@ -95,7 +106,7 @@ impl<M: Media> Client<M> {
     pub fn bury<S: Media>(&mut self, kernel: &mut Kernel<S>) -> Result<(), BuryError>
         ensures { Buries M.Media S.Media kernel.old self.old result self.new kernel.new }
     {
-        let count = self.unburied();
+        let count = self.unburied_count();
         if count > 0 {
             return Err(BuryError::NotDigested { count });
         }
@@ -112,6 +123,7 @@ impl<M: Media> Client<M> {
     /// Begins anew over the same pass and log: the client knows nothing, and nothing is granted to it. It makes no device call and takes no memory.
     ///
     /// It answers false, with nothing changed, exactly where a region is away or not wiped, a record is in one or begun, or a device has failed.
+    #[tactic(auto, using(crate::proofs::ClientEnds::emptied_is_new))]
     pub fn renew(&mut self) -> bool
         ensures exact { IsTrue result ↔ CanBeRenewed M.Media self.old.log }
         ensures renewed { result ≡ true → IsRenewed self.old self.new }
@@ -124,8 +136,11 @@ impl<M: Media> Client<M> {
         true
     }
 
+    #[tactic(auto, using(crate::proofs::ClientEnds::nothing_left, crate::proofs::ClientEnds::none_begun))]
     fn can_be_renewed(&self) -> bool
         ensures exact { IsTrue result ↔ CanBeRenewed M.Media self.now.log }
+        ensures idle { result ≡ true → self.now.begun ≡ None }
+        ensures sealed { result ≡ true → self.now.sealed ≡ [] }
         ensures none { result ≡ true → own_records M.Media self.now ≡ [] }
     {
         !self.log.has_failed()
@@ -135,11 +150,16 @@ impl<M: Media> Client<M> {
     }
 
     // How many records of the client are undigested, or in a region that is not back.
-    fn unburied(&self) -> usize
-        ensures { result ≡ unburied M.Media self.now }
+    #[tactic(auto, using(crate::proofs::ClientEnds::own_one, crate::proofs::ClientEnds::own_same, crate::proofs::ClientEnds::none_of_them))]
+    fn unburied_count(&self) -> usize
+        ensures count { result ≡ unburied M.Media self.now }
+        ensures none { result ≡ 0 → own_records M.Media self.now ≡ [] }
     {
-        let begun: usize = if self.begun.is_some() { 1 } else { 0 };
-        self.records.sealed_records().len() + self.records.current().len() + begun
+        let kept = self.records.sealed_records().len() + self.records.current().len();
+        if self.begun.is_none() {
+            return kept;
+        }
+        kept + 1
     }
 
     // Gives all leases, and drops all that was known and granted. No record of the client is undigested.

@@ -24,7 +24,7 @@ pub enum Found {
 
 impl Fate {
     /// The fate without its reply.
-    pub fn found(&self) -> Found
+    pub fn kind(&self) -> Found
         ensures { result ≡ found_in self.now }
     {
         match self {

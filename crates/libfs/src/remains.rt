@@ -131,7 +131,7 @@ impl<M: Media> Remains<M> {
         match self.client.settle() {
             Ok(fate) => {
                 self.life = Life::Settled {
-                    found: fate.found(),
+                    found: fate.kind(),
                 };
                 Ok(fate)
             }
