@@ -40,9 +40,7 @@ impl<M: Media> ClientSlot<M> {
         }
         match self.client.settle() {
             Ok(fate) => {
-                self.life = Life::Settled {
-                    found: fate.kind(),
-                };
+                self.life = Life::Settled { found: fate.kind() };
                 Outcome::Settled { fate }
             }
             Err(_) => Outcome::Refused {

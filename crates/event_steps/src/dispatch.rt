@@ -118,17 +118,14 @@ fn play_allowed<M: Media + Drop>(
         Event::Seal { .. } => seat.seal(),
         Event::WipeStep { .. } => seat.wipe_step(),
         Event::Deny { call, why, .. } => seat.deny(call, *why),
-        Event::Die { .. } | Event::Settle { .. } | Event::Bury { .. } | Event::Join { .. } => play_end(kernel, seat, event),
+        Event::Die { .. } | Event::Settle { .. } | Event::Bury { .. } | Event::Join { .. } =>
+            play_end(kernel, seat, event),
         _ => play_with(alloc, kernel, seat, event),
     }
 }
 
 // An event of a client's end.
-fn play_end<M: Media>(
-    kernel: &mut Kernel<M>,
-    seat: &mut ClientSlot<M>,
-    event: &Event,
-) -> Outcome
+fn play_end<M: Media>(kernel: &mut Kernel<M>, seat: &mut ClientSlot<M>, event: &Event) -> Outcome
     requires end { is_end event.now ≡ true }
     requires may { MayPlay seat.old.life event.now }
     ensures carries { Carries (HasWork M.Media seat.old event.now) (Makes M.Media kernel.old seat.old event.now result seat.new kernel.new) ((seat.new ≡ seat.old) × (kernel.new ≡ kernel.old)) result }

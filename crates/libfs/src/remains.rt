@@ -130,9 +130,7 @@ impl<M: Media> Remains<M> {
     {
         match self.client.settle() {
             Ok(fate) => {
-                self.life = Life::Settled {
-                    found: fate.kind(),
-                };
+                self.life = Life::Settled { found: fate.kind() };
                 Ok(fate)
             }
             Err(error) => Err(error),
