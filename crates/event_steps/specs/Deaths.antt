@@ -40,6 +40,9 @@ pub record IsSettledOn {M : Type 0} (device : Ghosts M) (old : SeatView M) (o : 
   pub stage : IsSome old.client.begun → OnOk answer (new.client.log.current.stage ≡ stages.Resting)
   pub stage_failed : OnErr answer (new.client.log.current.stage ≡ stages.Failed)
   pub log : new.client.log ≡ record old.client.log { current = new.client.log.current; failed = new.client.log.failed }
+  -- its leases stay, and the records of the region that is away
+  pub leases : new.client.pass ≡ record old.client.pass { records = new.client.pass.records }
+  pub sealed : new.client.sealed ≡ old.client.sealed
   pub rest : new ≡ record old { client = new.client; life = life_settled answer }
 
 -- ---- buried
