@@ -123,7 +123,6 @@ impl<M: Media> Client<M> {
     /// Begins anew over the same pass and log: the client knows nothing, and nothing is granted to it. It makes no device call and takes no memory.
     ///
     /// It answers false, with nothing changed, exactly where a region is away or not wiped, a record is in one or begun, or a device has failed.
-    #[tactic(auto, using(crate::proofs::ClientEnds::emptied_is_new))]
     pub fn renew(&mut self) -> bool
         ensures exact { IsTrue result ↔ CanBeRenewed M.Media self.old.log }
         ensures renewed { result ≡ true → IsRenewed self.old self.new }
