@@ -1,5 +1,5 @@
 -- A settled client is buried: its account is emptied, and so is the client; or it is refused, and nothing has changed.
-use Rattle.std.proofs.Common.{◌≡◌, ◌≢◌, ℕ, ◌-◌, Bool, true, false, List, [], ◌∷◌, ◌++◌, drop, length, Option, Some, None, refl, ap, sym, ◌∙◌, subst}
+use Rattle.std.proofs.Common.{◌≡◌, ◌≢◌, ℕ, ◌-◌, Bool, true, false, List, [], ◌∷◌, ◌++◌, drop, length, Option, Some, None, refl, ap, sym, ◌∙◌, subst, arith}
 use Rattle.std.specs.Prelude.{Result, Ok, Err, slice_set}
 use Rattle.std.proofs.lemmas.Bool.{false≢true}
 use Rattle.std.proofs.Math.Seq.{drop-nil}
@@ -68,7 +68,7 @@ stays_settled (lives.Buried found) e = refl
 -- what was buried had no record left
 none_left : {A : Type 0} (rs : List A) → ((count : ℕ) → (count ≡ length rs) × (count ≢ 0) → ⊥) → rs ≡ []
 none_left [] off = refl
-none_left (r ∷ rs) off = absurd (off (length (r ∷ rs)) (refl, λ none. absurd (cc none)))
+none_left (r ∷ rs) off = absurd (off (length (r ∷ rs)) (refl, λ none. absurd (omega (arith, none))))
 
 module _ {M : Type 0} (device : Ghosts M) (given : Given device) (v : WorldView M) (c : ℕ) (o : Outcome) (new : SystemView M) (begun : IsBegunIn device v new) (turn : CanPlay device v.system (Bury c)) (makes : MakesAt device v.system c (Bury c) o new) where
   abbrev s : SeatView M
