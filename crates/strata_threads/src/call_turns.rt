@@ -1,5 +1,5 @@
 //! A call of one client, from its start to its answer.
-ghost use Rattle.std.specs.Prelude.{◌≡◌, ◌≢◌, ◌<◌, true, false, IfErr, IfOk, IfSome, OnErr, Result, None};
+ghost use Rattle.std.specs.Prelude.{◌≡◌, ◌≢◌, ◌<◌, ◌∷◌, [], true, false, IfErr, IfOk, IfSome, OnErr, Result, None};
 ghost use Rattle.libfs.specs.client_plan.declared.need.Need.{Need};
 ghost use Rattle.posix_calls.specs.declared.call.Reply.{Reply};
 ghost use Rattle.libfs.specs.View.{is_pending};
@@ -62,8 +62,7 @@ impl<M: Media + Drop> ThreadClient<M> {
         ensures turns { IsWithinTurns result self.new.waited }
         ensures given { self.new.waited.turns ≡ turns }
     {
-        self.waited = Waited::none_of(turns);
-        self.listen_to(rt, shared, self.rows);
+        self.begin_turns(rt, shared, turns);
         for turn in rt.forever() {
             if self.waited.is_over() {
                 return Err(Denied::Turns);
@@ -73,6 +72,15 @@ impl<M: Media + Drop> ThreadClient<M> {
             }
         }
         unreachable!()
+    }
+
+    // A call begins, of which no turn was waited: its client listens.
+    pub(crate) fn begin_turns<R: Wait>(&mut self, rt: &R, shared: &SharedKernel<M>, turns: u64)
+        ensures waited { self.new.waited ≡ record { count = 0; turns = turns; to_write = 0 ∷ 0 ∷ 0 ∷ [] } }
+        ensures kept { KeepsCall self.old.client self.new.client }
+    {
+        self.waited = Waited::none_of(turns);
+        self.listen_to(rt, shared, self.rows);
     }
 
     // One turn: the call is started, and answered, or what it needs is served.
@@ -126,7 +134,7 @@ impl<M: Media + Drop> ThreadClient<M> {
         Ok(())
     }
 
-    fn serve_need<R: Wait, G: GatePoint>(
+    pub(crate) fn serve_need<R: Wait, G: GatePoint>(
         &mut self,
         rt: &R,
         shared: &SharedKernel<M>,
@@ -173,7 +181,7 @@ fn start_call<M: Media, G: GatePoint>(
 }
 
 // Starts a call: it waits then, or nothing has begun.
-fn begin_call<M: Media>(client: &mut Client<M>, call: &Call) -> Now
+pub(crate) fn begin_call<M: Media>(client: &mut Client<M>, call: &Call) -> Now
     requires idle { is_pending client.old ≡ false }
     ensures started { IsStarted M.Media call.now client.old result client.new }
     ensures needed { (need : Need) → result ≡ now.Need need → NeedsFirst M.Media client.new call.now need }
@@ -209,7 +217,7 @@ fn finish<M: Media, G: GatePoint>(client: &mut Client<M>, gate: &G) -> Reply
 }
 
 // Makes a device call of a begun record, and answers its call where that was the last.
-fn make_step<M: Media>(client: &mut Client<M>) -> Option<Reply>
+pub(crate) fn make_step<M: Media>(client: &mut Client<M>) -> Option<Reply>
     requires pending { is_pending client.old ≡ true }
     ensures owner { owner_of client.new ≡ owner_of client.old }
     ensures leases { KeepsLeases client.old client.new }
@@ -221,7 +229,7 @@ fn make_step<M: Media>(client: &mut Client<M>) -> Option<Reply>
 }
 
 // Makes the device calls that are left of a begun record, and answers its call.
-fn end_call<M: Media>(client: &mut Client<M>) -> Reply
+pub(crate) fn end_call<M: Media>(client: &mut Client<M>) -> Reply
     requires pending { is_pending client.old ≡ true }
     ensures ended { IsEnded M.Media client.old result client.new }
     ensures owner { owner_of client.new ≡ owner_of client.old }
