@@ -12,6 +12,7 @@ ghost use Rattle.strata_threads.specs.CallDenials.{IsUnmet, NeedsFirst};
 ghost use Rattle.strata_threads.specs.ClientCalls.{IsAnswered, IsFinished, KeepsCall, owner_of};
 ghost use Rattle.strata_threads.specs.ClientDeath.{HasDiedAt, HasDiedIn, HasWipedLast, IsReplied, OnAnswered, OnDied};
 ghost use Rattle.strata_threads.specs.LeaseReturn.{KeepsLeases};
+ghost use Rattle.strata_threads.specs.RegionWipe.{clock_of};
 ghost use Rattle.strata_threads.specs.WaitedTurns.{HasWaitedFor};
 
 use crate::call_end::CallEnd;
@@ -280,11 +281,14 @@ fn finish_or_die<M: Media>(client: &mut Client<M>, left: &mut u64) -> Option<Rep
 
 // Wipes what is to be wiped, as far as device calls are left. One that fails is reported when the call is started again.
 fn wipe_or_die<M: Media>(client: &mut Client<M>, left: &mut u64)
+    requires idle { is_pending client.old ≡ false }
     requires some { left.old ≢ 0 }
     ensures rest { client.new ≡ record client.old { log = client.new.log } }
     ensures kept { KeepsCall client.old client.new }
     ensures wiped { left.new ≡ 0 → HasWipedLast M.Media client.new }
+    ensures counted { client.new.log.failed ≡ false → clock_of M.Media client.new.log + left.new ≡ clock_of M.Media client.old.log + left.old }
     ensures fewer { left.new ≤ left.old }
+    ensures leases { KeepsLeases client.old client.new }
 {
     for step in 0..WIPE_STEPS {
         if *left == 0 {
