@@ -12,5 +12,7 @@ pub enum CallEnd<M: Media + Drop> {
         reply: Reply,
     },
     /// Its client died before it was answered.
-    Died { remains: ThreadRemains<M> },
+    Died {
+        remains: ThreadRemains<M>,
+    },
 }

@@ -3,6 +3,9 @@ ghost use Rattle.std.specs.Prelude.{◌≡◌, ◌≢◌, ◌<◌, ◌∷◌, []
 ghost use Rattle.libfs.specs.client_plan.declared.need.Need.{Need};
 ghost use Rattle.posix_calls.specs.declared.call.Reply.{Reply};
 ghost use Rattle.libfs.specs.View.{is_pending};
+ghost use Rattle.libfs.specs.update_log.Stage.{next, progress};
+ghost use Rattle.libfs.specs.update_log.declared.stage.Progress.TheVariants.{Appended, Going};
+ghost use Rattle.libfs.specs.update_log.declared.stage.Stage.TheVariants as stages;
 ghost use Rattle.libfs.specs.declared.now.Now.TheVariants as now;
 ghost use Rattle.libfs.specs.declared.denial.Denied.{Denied};
 ghost use Rattle.libfs.specs.declared.denial.Denied.TheVariants as denied;
@@ -23,7 +26,7 @@ use std::sync::Wait;
 use tier_device::Media;
 
 // A record is appended by four device calls, of which the last answers its call.
-const STEPS: u32 = 4;
+pub(crate) const STEPS: u32 = 4;
 
 impl<M: Media + Drop> ThreadClient<M> {
     /// Makes a call, and answers it: as it is started, or as the device calls of its record end. Where it is denied what it needs, or all turns were waited, it is answered why, and changes nothing.
@@ -188,6 +191,7 @@ pub(crate) fn begin_call<M: Media>(client: &mut Client<M>, call: &Call) -> Now
     ensures owner { owner_of client.new ≡ owner_of client.old }
     ensures leases { KeepsLeases client.old client.new }
     ensures pending { result ≡ now.Pending → is_pending client.new ≡ true }
+    ensures stage { result ≡ now.Pending → client.new.log.current.stage ≡ stages.Begun }
     ensures idle { (result ≡ now.Pending → ⊥) → is_pending client.new ≡ false }
 {
     // For the proof: a record stays begun behind its answer only if a device has failed.
@@ -223,13 +227,15 @@ pub(crate) fn make_step<M: Media>(client: &mut Client<M>) -> Option<Reply>
     ensures leases { KeepsLeases client.old client.new }
     ensures ended { IfSome result (λ reply. IsEnded M.Media client.old reply client.new) }
     ensures going { result ≡ None → (is_pending client.new ≡ true) × (client.new.begun ≡ client.old.begun) }
+    ensures stage { result ≡ None → (progress client.old.log.current.stage ≡ Going) × (client.new.log.current.stage ≡ next client.old.log.current.stage) }
+    ensures last { (result ≡ None → ⊥) → client.new.log.failed ≡ false → progress client.old.log.current.stage ≡ Appended }
     ensures idle { (result ≡ None → ⊥) → is_pending client.new ≡ false }
 {
     client.step()
 }
 
 // Makes the device calls that are left of a begun record, and answers its call.
-pub(crate) fn end_call<M: Media>(client: &mut Client<M>) -> Reply
+fn end_call<M: Media>(client: &mut Client<M>) -> Reply
     requires pending { is_pending client.old ≡ true }
     ensures ended { IsEnded M.Media client.old result client.new }
     ensures owner { owner_of client.new ≡ owner_of client.old }

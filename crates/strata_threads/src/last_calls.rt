@@ -1,7 +1,24 @@
 //! The calls of a client that dies behind one of its device calls.
+ghost use Rattle.std.specs.Prelude.{◌≡◌, ◌≢◌, ◌<◌, ◌≤◌, ◌+◌, false, true, IfErr, IfOk, IfSome, IsSome, OnErr, None};
+ghost use Rattle.posix_calls.specs.declared.call.Reply.TheVariants as replies;
+ghost use Rattle.libfs.specs.Denial.{errno_of};
+ghost use Rattle.libfs.specs.View.{is_pending};
+ghost use Rattle.libfs.specs.client_plan.declared.need.Need.TheVariants as needs;
+ghost use Rattle.libfs.specs.declared.denial.Denied.TheVariants as denied;
+ghost use Rattle.libfs.specs.declared.life.Life.TheVariants as lives;
+ghost use Rattle.libfs.specs.update_log.Stage.{calls_left};
+ghost use Rattle.libfs.specs.update_log.declared.stage.Stage.TheVariants as stages;
+ghost use Rattle.strata_threads.specs.CallDenials.{IsUnmet, NeedsFirst};
+ghost use Rattle.strata_threads.specs.ClientCalls.{IsAnswered, IsFinished, KeepsCall, owner_of};
+ghost use Rattle.strata_threads.specs.ClientDeath.{HasDiedAt, HasDiedIn, HasWipedLast, IsReplied, OnAnswered, OnDied};
+ghost use Rattle.strata_threads.specs.LeaseReturn.{KeepsLeases};
+ghost use Rattle.strata_threads.specs.RegionWipe.{clock_of};
+ghost use Rattle.strata_threads.specs.WaitedTurns.{HasWaitedFor};
+
 use crate::call_end::CallEnd;
-use crate::call_turns::{begin_call, end_call, make_step};
+use crate::call_turns::{STEPS, begin_call, make_step};
 use crate::gate_point::OpenGate;
+use crate::lease_requests::WIPE_STEPS;
 use crate::shared_kernel::SharedKernel;
 use crate::thread_client::ThreadClient;
 use crate::thread_remains::ThreadRemains;
@@ -11,24 +28,9 @@ use posix_calls::{Call, Reply};
 use std::sync::Wait;
 use tier_device::Media;
 
-// A record is appended by four device calls, and three of them do not answer its call.
-const UNANSWERED_STEPS: u32 = 3;
-
-// A wipe makes four device calls, and a client has two regions.
-const WIPE_STEPS: u32 = 8;
-
-// How a start of a call ended.
-#[derive(Drop)]
-enum Start {
-    Answered { reply: Reply },
-    // Its client dies, with the call begun or not
-    Dies,
-    Lacks { need: Need },
-}
-
 impl<M: Media + Drop> ThreadClient<M> {
-    /// Makes a call and answers it, as `posix` with a gate that is open; but the client dies behind the last of the `left` device calls that it may still make on its regions, if that answers no call, and at once where none
-    /// is left. Those that it made are taken from `left`.
+    /// Makes a call and answers it, as `posix` does with a gate that is open; but the client dies behind the last of the `left` device calls that it may make on its regions from here, and at once where it may make none.
+    /// Those that it made are taken from `left`. A call that the last one answers is answered: its client dies with the next call, or is abandoned.
     pub fn posix_or_die<R: Wait>(
         self,
         rt: &R,
@@ -36,11 +38,25 @@ impl<M: Media + Drop> ThreadClient<M> {
         call: &Call,
         turns: u64,
         left: &mut u64,
-    ) -> CallEnd<M> {
-        let mut waiting = self;
-        if *left > 0 {
-            waiting.begin_turns(rt, shared, turns);
+    ) -> CallEnd<M>
+        ensures answered { OnAnswered result (λ v waited reply. IsReplied M.Media call.now v waited reply) }
+        ensures given { OnAnswered result (λ v waited reply. waited.turns ≡ turns) }
+        ensures owner { OnAnswered result (λ v waited reply. owner_of v ≡ owner_of self.client) }
+        ensures same { OnDied result (λ r. owner_of r.client ≡ owner_of self.client) }
+        ensures dead { OnDied result (λ r. r.life ≡ lives.Dead) }
+        ensures died { left.old ≢ 0 → OnDied result (λ r. HasDiedIn M.Media call.now left.old r.client) }
+        ensures spent { OnDied result (λ r. left.new ≡ 0) }
+        ensures at_once { left.old ≡ 0 → OnDied result (λ r. r.client ≡ self.client) }
+        ensures unasked { left.old ≡ 0 → OnAnswered result (λ v waited reply. ⊥) }
+        ensures fewer { left.new ≤ left.old }
+    {
+        if *left == 0 {
+            return CallEnd::Died {
+                remains: self.abandon(),
+            };
         }
+        let mut waiting = self;
+        waiting.begin_turns(rt, shared, turns);
         for turn in rt.forever() {
             match waiting.take_last_turn(rt, shared, call, left) {
                 Ok(end) => return end,
@@ -50,14 +66,26 @@ impl<M: Media + Drop> ThreadClient<M> {
         unreachable!()
     }
 
-    // One turn: the call is started, and it ends, or what it needs is served and the client goes on.
+    // One turn: the call is started, and it ends, or what it needs is served and its client goes on.
     fn take_last_turn<R: Wait>(
         self,
         rt: &R,
         shared: &SharedKernel<M>,
         call: &Call,
         left: &mut u64,
-    ) -> Result<CallEnd<M>, Self> {
+    ) -> Result<CallEnd<M>, Self>
+        requires wiped { left.old ≡ 0 → HasWipedLast M.Media self.client }
+        ensures answered { IfOk result (λ end. OnAnswered end (λ v waited reply. IsReplied M.Media call.now v waited reply)) }
+        ensures given { IfOk result (λ end. OnAnswered end (λ v waited reply. waited.turns ≡ self.waited.turns)) }
+        ensures owner { IfOk result (λ end. OnAnswered end (λ v waited reply. owner_of v ≡ owner_of self.client)) }
+        ensures same { IfOk result (λ end. OnDied end (λ r. owner_of r.client ≡ owner_of self.client)) }
+        ensures dead { IfOk result (λ end. OnDied end (λ r. r.life ≡ lives.Dead)) }
+        ensures died { IfOk result (λ end. OnDied end (λ r. HasDiedIn M.Media call.now left.old r.client)) }
+        ensures spent { IfOk result (λ end. OnDied end (λ r. left.new ≡ 0)) }
+        ensures goes_on { IfErr result (λ t. (owner_of t.client ≡ owner_of self.client) × (t.waited.turns ≡ self.waited.turns)) }
+        ensures wiped { IfErr result (λ t. left.new ≡ 0 → HasWipedLast M.Media t.client) }
+        ensures fewer { left.new ≤ left.old }
+    {
         if *left == 0 {
             return Ok(CallEnd::Died {
                 remains: self.abandon(),
@@ -69,8 +97,11 @@ impl<M: Media + Drop> ThreadClient<M> {
         self.start_last_call(rt, shared, call, left)
     }
 
-    // The call is not done, and answered why.
-    fn deny_call(self, call: &Call, why: Denied) -> CallEnd<M> {
+    // The call changes nothing, and is answered why it is denied.
+    fn deny_call(self, call: &Call, why: Denied) -> CallEnd<M>
+        ensures denied { OnAnswered result (λ v waited reply. (v ≡ self.client) × (waited ≡ self.waited) × (reply ≡ replies.Failed (errno_of why))) }
+        ensures lives { OnDied result (λ r. ⊥) }
+    {
         let mut client = self;
         let reply = client.client.deny(call, why);
         CallEnd::Answered { client, reply }
@@ -82,14 +113,27 @@ impl<M: Media + Drop> ThreadClient<M> {
         shared: &SharedKernel<M>,
         call: &Call,
         left: &mut u64,
-    ) -> Result<CallEnd<M>, Self> {
+    ) -> Result<CallEnd<M>, Self>
+        requires some { left.old ≢ 0 }
+        requires turns { self.waited.count < self.waited.turns }
+        ensures answered { IfOk result (λ end. OnAnswered end (λ v waited reply. IsReplied M.Media call.now v waited reply)) }
+        ensures given { IfOk result (λ end. OnAnswered end (λ v waited reply. waited.turns ≡ self.waited.turns)) }
+        ensures owner { IfOk result (λ end. OnAnswered end (λ v waited reply. owner_of v ≡ owner_of self.client)) }
+        ensures same { IfOk result (λ end. OnDied end (λ r. owner_of r.client ≡ owner_of self.client)) }
+        ensures dead { IfOk result (λ end. OnDied end (λ r. r.life ≡ lives.Dead)) }
+        ensures died { IfOk result (λ end. OnDied end (λ r. HasDiedAt M.Media call.now left.old r.client)) }
+        ensures spent { IfOk result (λ end. OnDied end (λ r. left.new ≡ 0)) }
+        ensures goes_on { IfErr result (λ t. (owner_of t.client ≡ owner_of self.client) × (t.waited.turns ≡ self.waited.turns)) }
+        ensures wiped { IfErr result (λ t. left.new ≡ 0 → HasWipedLast M.Media t.client) }
+        ensures fewer { left.new ≤ left.old }
+    {
         let mut waiting = self;
         match start_or_die(&mut waiting.client, call, left) {
-            Start::Answered { reply } => Ok(CallEnd::Answered {
+            Ok(Some(reply)) => Ok(CallEnd::Answered {
                 client: waiting,
                 reply,
             }),
-            Start::Dies => {
+            Ok(None) => {
                 let ThreadClient { client, ends, .. } = waiting;
                 Ok(CallEnd::Died {
                     remains: ThreadRemains {
@@ -98,7 +142,7 @@ impl<M: Media + Drop> ThreadClient<M> {
                     },
                 })
             }
-            Start::Lacks { need } => waiting.meet_last_need(rt, shared, call, &need, left),
+            Err(need) => waiting.meet_last_need(rt, shared, call, &need, left),
         }
     }
 
@@ -110,7 +154,18 @@ impl<M: Media + Drop> ThreadClient<M> {
         call: &Call,
         need: &Need,
         left: &mut u64,
-    ) -> Result<CallEnd<M>, Self> {
+    ) -> Result<CallEnd<M>, Self>
+        requires some { left.old ≢ 0 }
+        requires turns { self.waited.count < self.waited.turns }
+        requires needed { NeedsFirst M.Media self.client call.now need.now }
+        ensures answered { IfOk result (λ end. OnAnswered end (λ v waited reply. IsReplied M.Media call.now v waited reply)) }
+        ensures given { IfOk result (λ end. OnAnswered end (λ v waited reply. waited.turns ≡ self.waited.turns)) }
+        ensures owner { IfOk result (λ end. OnAnswered end (λ v waited reply. owner_of v ≡ owner_of self.client)) }
+        ensures lives { IfOk result (λ end. OnDied end (λ r. ⊥)) }
+        ensures goes_on { IfErr result (λ t. (owner_of t.client ≡ owner_of self.client) × (t.waited.turns ≡ self.waited.turns)) }
+        ensures wiped { IfErr result (λ t. left.new ≡ 0 → HasWipedLast M.Media t.client) }
+        ensures fewer { left.new ≤ left.old }
+    {
         let mut client = self;
         match client.serve_last_need(rt, shared, need, left) {
             Ok(()) => Err(client),
@@ -125,9 +180,42 @@ impl<M: Media + Drop> ThreadClient<M> {
         shared: &SharedKernel<M>,
         need: &Need,
         left: &mut u64,
-    ) -> Result<(), Denied> {
-        if !matches!(need, Need::Room) || self.client.is_region_away() {
-            return self.serve_need(rt, shared, need, &OpenGate);
+    ) -> Result<(), Denied>
+        requires some { left.old ≢ 0 }
+        requires turns { self.old.waited.count < self.old.waited.turns }
+        ensures kept { KeepsCall self.old.client self.new.client }
+        ensures waited { HasWaitedFor need.now self.old.waited self.new.waited }
+        ensures unmet { IfErr result (λ e. IsUnmet M.Media self.old.client need.now e self.new.client) }
+        ensures refused { OnErr result (self.new.waited ≡ self.old.waited) }
+        ensures only { IfErr result (λ e. e ≢ denied.Turns) }
+        ensures wiped { left.new ≡ 0 → HasWipedLast M.Media self.new.client }
+        ensures fewer { left.new ≤ left.old }
+    {
+        match *need {
+            Need::Room => self.make_last_room(rt, shared, left),
+            _ => self.serve_need(rt, shared, need, &OpenGate),
+        }
+    }
+
+    // Makes room as `make_room` does, but wipes no further than device calls are left.
+    fn make_last_room<R: Wait>(
+        &mut self,
+        rt: &R,
+        shared: &SharedKernel<M>,
+        left: &mut u64,
+    ) -> Result<(), Denied>
+        requires some { left.old ≢ 0 }
+        requires turns { self.old.waited.count < self.old.waited.turns }
+        ensures kept { KeepsCall self.old.client self.new.client }
+        ensures waited { HasWaitedFor needs.Room self.old.waited self.new.waited }
+        ensures unmet { IfErr result (λ e. IsUnmet M.Media self.old.client needs.Room e self.new.client) }
+        ensures refused { OnErr result (self.new.waited ≡ self.old.waited) }
+        ensures only { IfErr result (λ e. e ≡ denied.Memory) }
+        ensures wiped { left.new ≡ 0 → HasWipedLast M.Media self.new.client }
+        ensures fewer { left.new ≤ left.old }
+    {
+        if self.client.is_region_away() {
+            return self.make_room(rt, shared, &OpenGate);
         }
         match self.hand_over(rt, shared) {
             Ok(()) => {
@@ -139,21 +227,47 @@ impl<M: Media + Drop> ThreadClient<M> {
     }
 }
 
-// Starts a call, and makes the device calls of its record where one is begun, as far as they are left.
-fn start_or_die<M: Media>(client: &mut Client<M>, call: &Call, left: &mut u64) -> Start {
+// Starts a call, and makes the device calls of its record where one is begun; `None` where one of these is not left. What it needs, where something is lacking.
+fn start_or_die<M: Media>(
+    client: &mut Client<M>,
+    call: &Call,
+    left: &mut u64,
+) -> Result<Option<Reply>, Need>
+    requires idle { is_pending client.old ≡ false }
+    requires some { left.old ≢ 0 }
+    ensures answered { IfOk result (λ r. IfSome r (λ reply. IsAnswered M.Media call.now reply client.new)) }
+    ensures idle { IfOk result (λ r. IsSome r → is_pending client.new ≡ false) }
+    ensures died { IfOk result (λ r. r ≡ None → HasDiedAt M.Media call.now left.old client.new) }
+    ensures spent { IfOk result (λ r. r ≡ None → left.new ≡ 0) }
+    ensures needed { IfErr result (λ need. NeedsFirst M.Media client.new call.now need) }
+    ensures lacking { OnErr result ((is_pending client.new ≡ false) × (left.new ≡ left.old)) }
+    ensures fewer { left.new ≤ left.old }
+    ensures owner { owner_of client.new ≡ owner_of client.old }
+    ensures leases { KeepsLeases client.old client.new }
+{
     match begin_call(client, call) {
-        Now::Done { reply } => Start::Answered { reply },
-        Now::Need { need } => Start::Lacks { need },
-        Now::Pending => match finish_or_die(client, left) {
-            Some(reply) => Start::Answered { reply },
-            None => Start::Dies,
-        },
+        Now::Done { reply } => Ok(Some(reply)),
+        Now::Pending => Ok(finish_or_die(client, left)),
+        Now::Need { need } => Err(need),
     }
 }
 
-// Makes the device calls of a begun record, as far as they are left; `None` where one is wanting.
-fn finish_or_die<M: Media>(client: &mut Client<M>, left: &mut u64) -> Option<Reply> {
-    for step in 0..UNANSWERED_STEPS {
+// Makes the device calls of a begun record, as far as they are left; `None` where one is not.
+fn finish_or_die<M: Media>(client: &mut Client<M>, left: &mut u64) -> Option<Reply>
+    requires pending { is_pending client.old ≡ true }
+    requires stage { client.old.log.current.stage ≡ stages.Begun }
+    requires some { left.old ≢ 0 }
+    ensures finished { IfSome result (λ reply. IsFinished M.Media client.old reply client.new) }
+    ensures idle { IsSome result → is_pending client.new ≡ false }
+    ensures died { result ≡ None → (is_pending client.new ≡ true) × (client.new.begun ≡ client.old.begun) }
+    // That so many device calls of it were made as were left, and one more would be made for its call's answer at least.
+    ensures behind { result ≡ None → (left.new ≡ 0) × (left.old + calls_left client.new.log.current.stage ≡ 4) }
+    ensures counted { IsSome result → client.new.log.failed ≡ false → left.new + 4 ≡ left.old }
+    ensures fewer { left.new ≤ left.old }
+    ensures owner { owner_of client.new ≡ owner_of client.old }
+    ensures leases { KeepsLeases client.old client.new }
+{
+    for step in 0..STEPS {
         if *left == 0 {
             return None;
         }
@@ -162,15 +276,20 @@ fn finish_or_die<M: Media>(client: &mut Client<M>, left: &mut u64) -> Option<Rep
             return Some(reply);
         }
     }
-    if *left == 0 {
-        return None;
-    }
-    *left -= 1;
-    Some(end_call(client))
+    unreachable!()
 }
 
 // Wipes what is to be wiped, as far as device calls are left. One that fails is reported when the call is started again.
-fn wipe_or_die<M: Media>(client: &mut Client<M>, left: &mut u64) {
+fn wipe_or_die<M: Media>(client: &mut Client<M>, left: &mut u64)
+    requires idle { is_pending client.old ≡ false }
+    requires some { left.old ≢ 0 }
+    ensures rest { client.new ≡ record client.old { log = client.new.log } }
+    ensures kept { KeepsCall client.old client.new }
+    ensures wiped { left.new ≡ 0 → HasWipedLast M.Media client.new }
+    ensures counted { client.new.log.failed ≡ false → clock_of M.Media client.new.log + left.new ≡ clock_of M.Media client.old.log + left.old }
+    ensures fewer { left.new ≤ left.old }
+    ensures leases { KeepsLeases client.old client.new }
+{
     for step in 0..WIPE_STEPS {
         if *left == 0 {
             return;

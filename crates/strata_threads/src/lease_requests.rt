@@ -29,7 +29,7 @@ use std::thread;
 use tier_device::Media;
 
 // A wipe makes four device calls, and a client has two regions.
-const WIPE_STEPS: u32 = 8;
+pub(crate) const WIPE_STEPS: u32 = 8;
 
 // The turns up to which a client that waits lets others go longer and longer
 const MOST_YIELDS: u64 = 64;

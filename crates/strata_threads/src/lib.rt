@@ -48,5 +48,5 @@ pub mod in_layout {
 
 /// Of `libfs`, what the crates above name.
 pub mod in_libfs {
-    pub use libfs::{BuryError, Client, Detached, Fate, Remains, SealedRegion};
+    pub use libfs::{BuryError, Client, Detached, Fate, SealedRegion};
 }

@@ -1,11 +1,16 @@
 //! What a client in a thread left that died, and its burial.
-ghost use Rattle.std.specs.Prelude.{◌≡◌, ◌++◌, ◌↔◌, [], true, IfErr, IfOk, IfSome, IsOk, IsTrue, OnErr, OnOk, Some};
+ghost use Rattle.std.specs.Prelude.{◌≡◌, ◌++◌, ◌↔◌, [], true, false, IfErr, IfOk, IfSome, IsOk, IsTrue, OnErr, OnOk, None, Ok, Some};
+ghost use Rattle.libfs.specs.client_log.Steps.{CanBeSealed};
 ghost use Rattle.libfs.specs.client_log.View.{current_records};
 ghost use Rattle.libfs.specs.client_log.declared.error.LogError.TheVariants.{DeviceFault};
 ghost use Rattle.libfs.specs.ClientEnd.{Buries, CanBeRenewed, IsRenewed, Settles};
 ghost use Rattle.libfs.specs.Lives.{is_buried, is_settled, life_buried, life_settled};
 ghost use Rattle.libfs.specs.declared.life.Life.TheVariants as lives;
 ghost use Rattle.libfs.specs.kernel_fs.KernelView.{KernelView};
+ghost use Rattle.strata_threads.specs.ClientCalls.{KeepsCall};
+ghost use Rattle.strata_threads.specs.LeaseReturn.{KeepsLeases};
+ghost use Rattle.strata_threads.specs.RegionHandover.{HandsOver, HasComeBack, HasLookedForRegion, HasReceived};
+ghost use Rattle.strata_threads.specs.RegionWipe.{IsAllWiped};
 
 use crate::region_ends::RegionEnds;
 use crate::shared_kernel::SharedKernel;
@@ -47,9 +52,11 @@ impl<M: Media + Drop> ThreadRemains<M> {
     }
 
     /// Has all that the client logged digested, in at most `rounds` rounds: its region is taken back once a worker has digested it, and the current one is handed over. It answers whether no record is left that is not
-    /// known to be digested. A record that is begun stays, so a client whose call waited is settled before.
+    /// known to be digested. A record that is begun stays so, and nothing is handed over then: a client whose call waited is settled before. Its leases stay.
     pub fn clear_log<R: Wait>(&mut self, rt: &R, shared: &SharedKernel<M>, rounds: u64) -> bool
         ensures cleared { IsTrue result ↔ (self.new.remains.client.sealed ++ current_records M.Media self.new.remains.client.log ≡ []) }
+        ensures kept { KeepsCall self.old.remains.client self.new.remains.client }
+        ensures leases { KeepsLeases self.old.remains.client self.new.remains.client }
         ensures life { self.new.remains.life ≡ self.old.remains.life }
     {
         for round in 0..rounds {
@@ -63,8 +70,12 @@ impl<M: Media + Drop> ThreadRemains<M> {
         self.is_clear()
     }
 
-    // Takes the region back that came by the queue, if one is away, and it is digested whole; any other one goes to the workers once more.
+    // Takes the region back that came by the queue, if one is away. One that the queue to the workers had no room for goes first.
     fn take_back<R: Wait>(&mut self, rt: &R, shared: &SharedKernel<M>)
+        ensures back { HasComeBack M.Media self.old.remains.client self.new.remains.client }
+        ensures looked { self.old.remains.client.log.other ≡ None → self.old.ends.kept ≡ None → HasLookedForRegion M.Media self.old.remains.client self.old.ends.tasks self.old.ends.returns self.new.remains.client self.new.ends.tasks self.new.ends.returns self.new.ends.kept }
+        ensures kept { KeepsCall self.old.remains.client self.new.remains.client }
+        ensures leases { KeepsLeases self.old.remains.client self.new.remains.client }
         ensures life { self.new.remains.life ≡ self.old.remains.life }
     {
         if !self.remains.is_region_away() {
@@ -76,8 +87,13 @@ impl<M: Media + Drop> ThreadRemains<M> {
         }
     }
 
+    // Takes a region back that is digested whole; any other one goes to the workers once more.
     fn receive<R: Wait>(&mut self, rt: &R, shared: &SharedKernel<M>, region: SealedRegion<M>)
         requires free { self.old.ends.kept ≡ None }
+        ensures received { HasReceived M.Media self.old.remains.client self.old.ends.tasks region self.new.remains.client self.new.ends.tasks self.new.ends.kept }
+        ensures returns { self.new.ends.returns ≡ self.old.ends.returns }
+        ensures kept { KeepsCall self.old.remains.client self.new.remains.client }
+        ensures leases { KeepsLeases self.old.remains.client self.new.remains.client }
         ensures life { self.new.remains.life ≡ self.old.remains.life }
     {
         match self.remains.take_back(region) {
@@ -88,6 +104,11 @@ impl<M: Media + Drop> ThreadRemains<M> {
 
     // Seals the current region and sends it to the workers, where it has records and no other one is away. An error is want of memory, with nothing changed.
     fn hand_over<R: Wait>(&mut self, rt: &R, shared: &SharedKernel<M>) -> Result<(), AllocError>
+        ensures handed { OnOk result (HandsOver M.Media self.old.ends.kept self.old.remains.client self.old.ends.tasks self.new.remains.client self.new.ends.tasks self.new.ends.kept) }
+        ensures memory { OnErr result (CanBeSealed M.Media self.old.remains.client.log × (self.new.remains ≡ self.old.remains) × (self.new.ends ≡ self.old.ends)) }
+        ensures returns { self.new.ends.returns ≡ self.old.ends.returns }
+        ensures kept { KeepsCall self.old.remains.client self.new.remains.client }
+        ensures leases { KeepsLeases self.old.remains.client self.new.remains.client }
         ensures life { self.new.remains.life ≡ self.old.remains.life }
     {
         if self.ends.kept.is_some() {
@@ -123,16 +144,23 @@ impl<M: Media + Drop> ThreadRemains<M> {
         bury_in(&mut self.remains, &mut *kernel)
     }
 
-    /// Wipes what is to be wiped of the regions that are here. It answers whether nothing is left to be wiped, and takes no memory.
+    /// Wipes what is to be wiped of the regions that are here. It answers whether it saw that nothing is left to be wiped, and takes no memory.
     ///
-    /// Refused exactly where a device of its regions fails, or had failed.
+    /// Refused only where a device of its regions failed: then it has failed.
     pub fn wipe(&mut self) -> Result<bool, LogError>
+        ensures wiped { IfOk result (λ all. all ≡ true → IsAllWiped self.new.remains.client.log) }
+        ensures sound { OnOk result (self.old.remains.client.log.failed ≡ false) }
+        ensures failed { OnErr result (self.new.remains.client.log.failed ≡ true) }
+        ensures only { IfErr result (λ e. e ≡ DeviceFault) }
+        ensures nothing { IsAllWiped self.old.remains.client.log → (result ≡ Ok true) × (self.new.remains ≡ self.old.remains) }
         ensures rest { self.new.remains ≡ record self.old.remains { client = record self.old.remains.client { log = self.new.remains.client.log } } }
         ensures ends { self.new.ends ≡ self.old.ends }
     {
         for look in 0..WIPE_LOOKS {
-            if self.remains.wipe_step()?.is_none() {
-                return Ok(true);
+            match self.remains.wipe_step() {
+                Ok(Some(_)) => {}
+                Ok(None) => return Ok(true),
+                Err(error) => return Err(error),
             }
         }
         Ok(false)

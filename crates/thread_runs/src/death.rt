@@ -33,7 +33,9 @@ pub(crate) fn death_asked(matches: &OptionMatches<'_>) -> Result<Option<Death>, 
     };
     match death_of(text.as_bytes()) {
         Some(death) => Ok(Some(death)),
-        None => Err(WordsError::Value("--die takes a client from 1 to 8, a colon and a number from 1 on, as --die 2:3")),
+        None => Err(WordsError::Value(
+            "--die takes a client from 1 to 8, a colon and a number from 1 on, as --die 2:3",
+        )),
     }
 }
 

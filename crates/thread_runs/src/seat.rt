@@ -155,7 +155,10 @@ impl Seat {
     /// Who has the seat, or else what its client left.
     pub(crate) fn into_parts(
         self,
-    ) -> (Option<ThreadClient<RunMedium>>, Option<ThreadRemains<RunMedium>>) {
+    ) -> (
+        Option<ThreadClient<RunMedium>>,
+        Option<ThreadRemains<RunMedium>>,
+    ) {
         (self.client, self.remains)
     }
 }
