@@ -1,5 +1,6 @@
 pub mod Busy
 pub mod Handover
+pub mod LastCalls
 pub mod LeaseReturn
 pub mod Needs
 pub mod Questions

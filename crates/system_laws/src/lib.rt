@@ -92,7 +92,7 @@ pub mod in_lease_manager {
 
 /// Of `libfs`, what the crates above name.
 pub mod in_libfs {
-    pub use event_steps::in_libfs::{Client, Denied};
+    pub use event_steps::in_libfs::{Client, Denied, Found, Life};
 }
 
 /// Of `log_record`, what the crates above name.

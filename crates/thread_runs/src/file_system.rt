@@ -69,7 +69,7 @@ fn clients_of(
 {
     let mut clients = room;
     for seat in seats {
-        let (client, _) = seat.into_parts();
+        let (client, _, _) = seat.into_parts();
         clients.push_reserved(client);
     }
     clients
