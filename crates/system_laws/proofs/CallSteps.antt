@@ -8,7 +8,7 @@ use Rattle.posix_calls.specs.declared.call.Reply.TheVariants as replies
 use Rattle.posix_calls.specs.declared.errno.Errno.TheVariants.{IoError}
 use Rattle.posix_calls.specs.Outcome.{Unfinished}
 use Rattle.event_steps.specs.client_log.View.{LogView}
-use Rattle.event_steps.specs.world_invariant.World.{Client, World}
+use Rattle.event_steps.specs.world_invariant.World.{World}
 use Rattle.event_steps.specs.libfs.CallStep.{HasFailed, IsGoing}
 use Rattle.event_steps.specs.libfs.declared.life.Life.{Life}
 use Rattle.event_steps.specs.Calls.{IsStepped}
@@ -53,8 +53,8 @@ module _ {M : Type 0} (device : Ghosts M) (seen_now : (m : M) (t : Tier) → dev
   past false sound = (made.moved sound).past
   past true failed = stays_so device s.client.log.current.media x.client.log.current.media (ap (λ (l : LogView M). l.current.media) (made.stays_failed failed))
 
-  pub call : IsCallOf device v (Step c) new c s x
-  call = record {
+  pub is_call : IsCallOf device v (Step c) new c s x
+  is_call = record {
     client = client_is c turn.0;
     was = makes.was;
     kernel = makes.makes.1;
@@ -64,7 +64,7 @@ module _ {M : Type 0} (device : Ghosts M) (seen_now : (m : M) (t : Tier) → dev
   }
 
   pub own : IsClientOf device s (calls_of v c) (w.clients c)
-  own = own_of device seen_now sized given v (Step c) o new c s x begun call
+  own = own_of device seen_now sized given v (Step c) o new c s x begun is_call
 
   -- its status, by whether a device has failed then
   pub status_then : (failed : Bool) → x.client.log.failed ≡ failed → status_of s.life failed ≡ status_of x.life x.client.log.failed
@@ -73,13 +73,13 @@ module _ {M : Type 0} (device : Ghosts M) (seen_now : (m : M) (t : Tier) → dev
   -- the record is not kept yet
   pub going : s.client.log.failed ≡ false → x.client.log.failed ≡ false → IsGoing device s.client made.answer x.client → IsStep device v (Step c) o (record { system = new; calls = v.calls })
   going sound still is =
-      quiet device seen_now sized given v (Step c) o new c s x begun call (w.clients c) (as_it_was w c begun.stands.is.coherent call.client)
+      quiet device seen_now sized given v (Step c) o new c s x begun is_call (w.clients c) (as_it_was w c begun.stands.is.coherent is_call.client)
       (ap (news (calls_of v) (Step c)) (made.told ∙ ap step_outcome is.told))
-      (log_client device seen_now sized given v (Step c) o new c s x begun call s.client.answered (w.clients c).status is.rest is.turn (own.status ∙ ap (status_of s.life) sound ∙ status_then false still))
+      (log_client device seen_now sized given v (Step c) o new c s x begun is_call s.client.answered (w.clients c).status is.rest is.turn (own.status ∙ ap (status_of s.life) sound ∙ status_then false still))
 
   -- a device failed, or had failed
   pub failed : x.client.log.failed ≡ true → HasFailed device s.client made.answer x.client → IsStep device v (Step c) o (record { system = new; calls = v.calls })
   failed fails is =
-      quiet device seen_now sized given v (Step c) o new c s x begun call (record (w.clients c) { status = status_of s.life true }) (fails_then w c begun.stands.is.coherent call.client s.life s.client.log.failed own.status)
+      quiet device seen_now sized given v (Step c) o new c s x begun is_call (record (w.clients c) { status = status_of s.life true }) (fails_then w c begun.stands.is.coherent is_call.client s.life s.client.log.failed own.status)
       (ap (news (calls_of v) (Step c)) (made.told ∙ ap step_outcome is.told) ∙ after_fault (calls_of v) c (calls_of v c))
-      (log_client device seen_now sized given v (Step c) o new c s x begun call true (status_of s.life true) is.rest is.turn (status_then true fails))
+      (log_client device seen_now sized given v (Step c) o new c s x begun is_call true (status_of s.life true) is.rest is.turn (status_then true fails))

@@ -11,7 +11,7 @@ use Rattle.event_steps.specs.declared.event.Event.TheVariants.{Die}
 use Rattle.event_steps.specs.declared.outcome.Outcome.{Outcome}
 use Rattle.event_steps.proofs.world_invariant_lemmas.Begins.{turned_holds, turned_tree}
 use Rattle.system_laws.specs.Steps.{IsBegunIn, IsStep}
-use Rattle.system_laws.specs.WorldView.{WorldView, calls_of}
+use Rattle.system_laws.specs.WorldView.{WorldView}
 use Rattle.system_laws.proofs.Given.{Given}
 use Rattle.system_laws.proofs.OwnSeat.{turn_at}
 use Rattle.system_laws.proofs.Seated.{own_mark, own_part, quiet_step}

@@ -1,8 +1,7 @@
 -- A client that was emptied, of which no region is away and no record is left: nothing is left of it in the world but where its regions are.
-use Rattle.std.proofs.Common.{◌≡◌, ◌≢◌, ◌⊎◌, ℕ, ◌+◌, ◌<◌, ◌%◌, ◌==◌, Bool, true, false, List, [], ◌∷◌, ◌++◌, length, Option, Some, None, refl, ap, sym, ◌∙◌, subst, arith}
-use Rattle.std.specs.Prelude.{drop, is_some}
+use Rattle.std.proofs.Common.{◌≡◌, ℕ, ◌<◌, Bool, true, List, [], ◌∷◌, ◌++◌, length, Option, Some, None, refl, ap, sym, ◌∙◌, subst, arith}
+use Rattle.std.specs.Prelude.{is_some}
 use Rattle.std.proofs.lemmas.Bool.{false≢true}
-use Rattle.std.proofs.Math.Seq.{drop-nil}
 use Rattle.tier_device.specs.declared.media.Media.{Ghosts}
 use Rattle.posix_calls.specs.declared.call.Call.{Call}
 use Rattle.event_steps.specs.file_graph.Graph.{is_among}
@@ -12,7 +11,7 @@ use Rattle.event_steps.specs.client_log.Turns.{place_of, turn_of}
 use Rattle.event_steps.specs.client_log.View.{LogView, current_records}
 use Rattle.event_steps.specs.layout.declared.marks.Mark.{Mark}
 use Rattle.event_steps.specs.lease_manager.PassLeases.{is_reading, is_writing}
-use Rattle.event_steps.specs.world_invariant.FormatWorld.{idle_account, idle_client, knows_nothing}
+use Rattle.event_steps.specs.world_invariant.FormatWorld.{idle_client, knows_nothing}
 use Rattle.event_steps.specs.world_invariant.World.{Account, Client, Region, Status}
 use Rattle.event_steps.specs.world_invariant.World as world
 use Rattle.event_steps.specs.libfs.ClientEnd.{IsEmptied}

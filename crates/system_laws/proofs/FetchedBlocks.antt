@@ -22,7 +22,7 @@ use Rattle.event_steps.specs.world_invariant.World as world
 use Rattle.event_steps.specs.Effects.{MakesAt}
 use Rattle.event_steps.specs.KernelRequests.{GetsBlocks, HasNoSuchBlocks}
 use Rattle.event_steps.specs.Outcomes.{noted_refusals}
-use Rattle.event_steps.specs.Turns.{CanPlay, IsHeld}
+use Rattle.event_steps.specs.Turns.{CanPlay}
 use Rattle.event_steps.specs.View.{SeatView, SystemView}
 use Rattle.event_steps.specs.declared.event.Event.TheVariants.{Blocks}
 use Rattle.event_steps.specs.declared.outcome.Outcome.{Outcome}

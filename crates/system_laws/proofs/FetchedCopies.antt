@@ -60,7 +60,7 @@ use Rattle.system_laws.proofs.Given.{Given}
 use Rattle.system_laws.proofs.LeasesGiven.{clean_log}
 use Rattle.system_laws.proofs.Looked.{looked_step}
 use Rattle.system_laws.proofs.MarkPlaces.{behind_mark, mark_now, not_away}
-use Rattle.system_laws.proofs.OwnSeat.{leaves_at, number_at, of_seat, turn_at}
+use Rattle.system_laws.proofs.OwnSeat.{of_seat, turn_at}
 use Rattle.system_laws.proofs.Refills.{known_part}
 use Rattle.system_laws.proofs.Seated.{own_mark, own_part, same_world}
 use Rattle.system_laws.proofs.Seats.{client_is}

@@ -12,7 +12,6 @@ use Rattle.event_steps.specs.lease_manager.Passes.{PassView, without_lease}
 use Rattle.event_steps.specs.lease_manager.PassLeases.{is_reading, is_writing}
 use Rattle.event_steps.specs.lease_manager.declared.view.LeaseMode.TheVariants.{Free}
 use Rattle.event_steps.specs.libfs.ClientHoldings.{known_to}
-use Rattle.event_steps.specs.libfs.LeaseCalls.{CanBeGiven}
 use Rattle.event_steps.specs.libfs.View.{ClientView, begun_record, own_records}
 use Rattle.event_steps.specs.client_log.View.{current_records}
 use Rattle.event_steps.specs.update_log.Frames.{with_record}

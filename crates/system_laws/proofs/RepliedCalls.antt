@@ -39,7 +39,7 @@ use Rattle.system_laws.specs.KeptCalls.{calls_then, set_call}
 use Rattle.system_laws.specs.Relation.{IsBegunAs, IsBegunBy, IsClientOf, status_of}
 use Rattle.system_laws.specs.Steps.{IsBegunIn, IsStep}
 use Rattle.system_laws.specs.WorldView.{WorldView, calls_of}
-use Rattle.system_laws.proofs.CallSteps.{call, own, status_then}
+use Rattle.system_laws.proofs.CallSteps.{is_call, own, status_then}
 use Rattle.system_laws.proofs.Given.{Given}
 use Rattle.system_laws.proofs.KeptRecords.{is_begun, its, knows_then, turn_then}
 use Rattle.system_laws.proofs.RegionCalls.{IsCallOf, step_of}
@@ -103,7 +103,7 @@ module _ {M : Type 0} (device : Ghosts M) (seen_now : (m : M) (t : Tier) → dev
   made = makes.makes.0
 
   abbrev call_made : IsCallOf device v (Step c) new c s x
-  call_made = call device seen_now sized given v c o new begun turn makes
+  call_made = is_call device seen_now sized given v c o new begun turn makes
 
   was : IsClientOf device s (calls_of v c) (w.clients c)
   was = own device seen_now sized given v c o new begun turn makes

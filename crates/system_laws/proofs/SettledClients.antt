@@ -1,6 +1,6 @@
 -- A dead client's call is settled: its record is there, or it is not, or none was begun; or the device fails.
-use Rattle.std.proofs.Common.{◌≡◌, ◌≢◌, inl, inr, ℕ, Bool, true, false, List, [], ◌∷◌, Option, Some, None, refl, ap, sym, ◌∙◌, subst}
-use Rattle.std.specs.Prelude.{Result, Ok, Err, IfOk, IfSome, IsSome, OnErr, get_or}
+use Rattle.std.proofs.Common.{◌≡◌, ◌≢◌, inl, inr, ℕ, true, false, List, [], ◌∷◌, Option, Some, None, refl, ap, sym, ◌∙◌, subst}
+use Rattle.std.specs.Prelude.{Result, Ok, Err, IfSome, IsSome}
 use Rattle.std.proofs.lemmas.Bool.Decides.{eqb_tells}
 use Rattle.tier_device.specs.declared.media.Media.{Ghosts}
 use Rattle.tier_device.specs.declared.media.Tier.{Tier}
@@ -28,7 +28,7 @@ use Rattle.event_steps.specs.world_invariant.World.{Client, World, world_state}
 use Rattle.event_steps.specs.world_invariant.World as world
 use Rattle.event_steps.specs.libfs.ClientEnd.{HadNoCall, IsFoundGone, IsFoundWhole, IsUnsettled, Settles, gate_read}
 use Rattle.event_steps.specs.libfs.ClientHoldings.{known_to}
-use Rattle.event_steps.specs.libfs.Lives.{found_in, life_settled}
+use Rattle.event_steps.specs.libfs.Lives.{life_settled}
 use Rattle.event_steps.specs.libfs.View.{ClientView}
 use Rattle.event_steps.specs.libfs.declared.begun_record.Begun.{Begun}
 use Rattle.event_steps.specs.libfs.declared.fate.Fate.{Fate}
@@ -87,7 +87,7 @@ module _ {M : Type 0} (device : Ghosts M) (seen_now : (m : M) (t : Tier) → dev
   -- one device call is made of the current region where a call waits, and else none
   past : (b : Option Begun) → s.client.begun ≡ b → Keeps (device.moment s.client.log.current.media) (device.moment x.client.log.current.media) (device.left s.client.log.current.media) (device.left x.client.log.current.media)
   past None is = stays_so device s.client.log.current.media x.client.log.current.media (ap (λ (l : LogView M). l.current.media) (made.quiet is))
-  past (Some b) is = (made.moved (subst (λ (y : Option Begun). IsSome y) (sym is) tt)).past
+  past (Some b) is = (made.moved (subst (λ (y : Option Begun). IsSome y) (sym is) refl)).past
 
   call : IsCallOf device v (Settle c) new c s x
   call = record {

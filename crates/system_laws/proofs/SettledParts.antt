@@ -1,10 +1,9 @@
 -- What a settling makes of a dead client's part of the world: its call is given up, or answered, and the client departs.
-use Rattle.std.proofs.Common.{◌≡◌, ℕ, ◌+◌, ◌-◌, true, [], ◌∷◌, None, refl, ap, sym, ◌∙◌, subst, arith}
-use Rattle.posix_calls.specs.Operations.{is_client, reply_of}
+use Rattle.std.proofs.Common.{◌≡◌, ℕ, ◌+◌, ◌-◌, [], ◌∷◌, None, ap, ◌∙◌, subst, arith}
+use Rattle.posix_calls.specs.Operations.{reply_of}
 use Rattle.posix_calls.specs.Run.{Asked, Departs, Run}
 use Rattle.event_steps.specs.world_invariant.Burial.{CanDepart, IsDying, after_departure, settled_gone}
-use Rattle.event_steps.specs.world_invariant.ClientSteps.{IsBegun, after_reply, given_up, with_client}
-use Rattle.event_steps.specs.world_invariant.Halves.{units_sent}
+use Rattle.event_steps.specs.world_invariant.ClientSteps.{IsBegun, after_reply, with_client}
 use Rattle.event_steps.specs.world_invariant.Invariant.{IsCoherent}
 use Rattle.event_steps.specs.world_invariant.World.{Begun, Client, World, world_state}
 use Rattle.event_steps.specs.world_invariant.World as world

@@ -23,7 +23,7 @@ use Rattle.event_steps.specs.libfs.declared.life.Life.{Life}
 use Rattle.event_steps.specs.world_invariant.ClientSteps.{with_client}
 use Rattle.event_steps.specs.world_invariant.Invariant.{IsCoherent}
 use Rattle.event_steps.specs.world_invariant.Logs.{is_written}
-use Rattle.event_steps.specs.world_invariant.World.{Account, Begun, Client, World, world_state}
+use Rattle.event_steps.specs.world_invariant.World.{Account, Client, World}
 use Rattle.event_steps.specs.world_invariant.World as world
 use Rattle.event_steps.specs.Calls.{CountsOn}
 use Rattle.event_steps.specs.Effects.{MakesAt}
