@@ -1,7 +1,7 @@
 // A running system answers the lines of a script.
 ghost use Rattle.std.specs.Prelude.{◌≡◌, ◌↔◌, IsTrue};
 ghost use Rattle.script.specs.LineValues.{system_line_seen};
-ghost use Rattle.workload_cli.specs.LineResults.{IsAnswerTo, IsDead, IsDigestAnswered, IsWipeAnswered, asking_in};
+ghost use Rattle.workload_cli.specs.LineResults.{IsAnswerTo, IsDead, IsDigestAnswered, IsLiveAnswer, IsWipeAnswered, asking_in};
 ghost use Rattle.workload_cli.specs.AnswerText.{book_answer};
 
 use crate::answer::Answer;
@@ -14,7 +14,7 @@ use call_driver::{Events, clear_client, wipe_all};
 use script::SystemLine;
 use std::alloc::Global;
 
-/// What a line is answered. A line of a client that is dead is blocked, and no event is played. Where there is no memory to build its call or its path, no event is played. A line that stops, fails or recovers a world asks nothing of a running system.
+/// What a line is answered. A line of a client that is dead, but `die` and `bury`, is blocked, and no event is played. Where there is no memory to build its call or its path, none is either. A line that stops, fails or recovers a world asks nothing of a running system.
 pub fn answer_line<S: Events + Running>(
     alloc: Global,
     system: &mut S,
@@ -25,6 +25,13 @@ pub fn answer_line<S: Events + Running>(
     if is_dead(system, asking_client(&line)) {
         return Answer::Blocked;
     }
+    answer_live(alloc, system, line)
+}
+
+// The same of a line whose client, if it wants one, lives.
+fn answer_live<S: Events + Running>(alloc: Global, system: &mut S, line: SystemLine<'_>) -> Answer
+    ensures { IsLiveAnswer S.Events S.Running system.old (system_line_seen line.entry) result system.new }
+{
     match line {
         SystemLine::Silent => Answer::Silent,
         SystemLine::Call {
