@@ -1,6 +1,6 @@
 // A client that died is buried, and a new one takes its seat.
 ghost use Rattle.std.specs.Prelude.{◌≡◌};
-ghost use Rattle.call_driver.specs.Burials.{IsBurial, IsDeadBuried, IsRenewed, IsSettledBuried, LeavesBook, after_join};
+ghost use Rattle.call_driver.specs.Burials.{IsBurial, IsDeadBuried, IsRenewed, IsSettledBuried, LeavesBook, after_bury, after_join, after_settle};
 ghost use Rattle.call_driver.specs.EventOwner.{IsOfClient};
 ghost use Rattle.call_driver.specs.Runs.{Leads};
 ghost use Rattle.interleavings.specs.event_steps.declared.event.Event.TheVariants as event;
@@ -41,10 +41,20 @@ fn bury_dead<E: Events>(events: &mut E, client: u32) -> BuryResult
     ensures buried { IsDeadBuried E.Events client result events.old events.new }
     ensures events { Leads E.plays (IsOfClient client) events.old events.new }
 {
-    match events.play(&Event::Settle { client }) {
-        Outcome::Settled { fate } => bury_settled(events, client, fate.kind()),
-        Outcome::Refused { refusal } => BuryResult::Refused(refusal),
-        _ => BuryResult::Idle,
+    match found_of(events.play(&Event::Settle { client })) {
+        Ok(found) => bury_settled(events, client, found),
+        Err(end) => end,
+    }
+}
+
+// What became of the call that was settled, or how the burial ends.
+fn found_of(outcome: Outcome) -> Result<Found, BuryResult>
+    ensures { result ≡ after_settle outcome }
+{
+    match outcome {
+        Outcome::Settled { fate } => Ok(fate.kind()),
+        Outcome::Refused { refusal } => Err(BuryResult::Refused(refusal)),
+        _ => Err(BuryResult::Idle),
     }
 }
 
@@ -64,10 +74,20 @@ fn leave_book<E: Events>(events: &mut E, client: u32, found: Found) -> BuryResul
     ensures buried { LeavesBook E.Events client found result events.old events.new }
     ensures events { Leads E.plays (IsOfClient client) events.old events.new }
 {
-    match events.play(&Event::Bury { client }) {
-        Outcome::Buried => renew_seat(events, client, found),
-        Outcome::Refused { refusal } => BuryResult::Refused(refusal),
-        _ => BuryResult::Idle,
+    match buried_of(found, events.play(&Event::Bury { client })) {
+        Ok(found) => renew_seat(events, client, found),
+        Err(end) => end,
+    }
+}
+
+// How the call of a client was found that is buried, or how the burial ends.
+fn buried_of(found: Found, outcome: Outcome) -> Result<Found, BuryResult>
+    ensures { result ≡ after_bury found outcome }
+{
+    match outcome {
+        Outcome::Buried => Ok(found),
+        Outcome::Refused { refusal } => Err(BuryResult::Refused(refusal)),
+        _ => Err(BuryResult::Idle),
     }
 }
 
@@ -86,7 +106,14 @@ fn join<E: Events>(events: &mut E, client: u32, found: Found) -> BuryResult
     ensures joined { (o : Outcome) × E.plays events.old (event.Join client) o events.new × (result ≡ after_join found o) }
     ensures events { Leads E.plays (IsOfClient client) events.old events.new }
 {
-    match events.play(&Event::Join { client }) {
+    joined_of(found, events.play(&Event::Join { client }))
+}
+
+// Whether another client has the seat of one whose call was found so.
+fn joined_of(found: Found, outcome: Outcome) -> BuryResult
+    ensures { result ≡ after_join found outcome }
+{
+    match outcome {
         Outcome::Joined => BuryResult::Buried(found),
         _ => BuryResult::Idle,
     }
