@@ -1,5 +1,5 @@
 // A running system answers the lines of a script.
-ghost use Rattle.std.specs.Prelude.{◌≡◌, ◌↔◌, IsTrue};
+ghost use Rattle.std.specs.Prelude.{◌≡◌, true, false};
 ghost use Rattle.script.specs.LineValues.{system_line_seen};
 ghost use Rattle.workload_cli.specs.LineResults.{IsAnswerTo, IsDead, IsDigestAnswered, IsLiveAnswer, IsWipeAnswered, asking_in};
 ghost use Rattle.workload_cli.specs.AnswerText.{book_answer};
@@ -9,8 +9,7 @@ use crate::calls::{answer_call, answer_step};
 use crate::deaths::{answer_bury, answer_die};
 use crate::system_queries::Running;
 use crate::tiers::{answer_migrate, answer_where};
-use call_driver::in_libfs::Life;
-use call_driver::{Events, clear_client, wipe_all};
+use call_driver::{Events, clear_client, is_dead, wipe_all};
 use script::SystemLine;
 use std::alloc::Global;
 
@@ -22,7 +21,7 @@ pub fn answer_line<S: Events + Running>(
 ) -> Answer
     ensures { IsAnswerTo S.Events S.Running system.old (system_line_seen line.entry) result system.new }
 {
-    if is_dead(system, asking_client(&line)) {
+    if is_of_dead(system, asking_client(&line)) {
         return Answer::Blocked;
     }
     answer_live(alloc, system, line)
@@ -73,11 +72,12 @@ fn asking_client(line: &SystemLine<'_>) -> Option<u32>
 }
 
 // Whether there is such a client and it is dead.
-fn is_dead<S: Events + Running>(system: &S, client: Option<u32>) -> bool
-    ensures { IsTrue result ↔ IsDead S.Events system.now client }
+fn is_of_dead<S: Events + Running>(system: &S, client: Option<u32>) -> bool
+    ensures dead { result ≡ true → IsDead S.Events system.now client }
+    ensures alive { result ≡ false → IsDead S.Events system.now client → ⊥ }
 {
     match client {
-        Some(client) => system.life(client) != Life::Alive,
+        Some(client) => is_dead(system, client),
         None => false,
     }
 }

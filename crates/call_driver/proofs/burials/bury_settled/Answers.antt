@@ -1,4 +1,4 @@
-use Rattle.std.proofs.Common.{refl, tt}
+use Rattle.std.proofs.Common.{refl}
 use Rattle.std.specs.Prelude.{Ok, Err}
 use Rattle.call_driver.specs.EventOwner.{IsDigesting, IsOfClient}
 use Rattle.call_driver.proofs.KindLemmas.{digesting_is_own}
