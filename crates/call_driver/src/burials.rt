@@ -1,10 +1,11 @@
 // A client that died is buried, and a new one takes its seat.
-ghost use Rattle.std.specs.Prelude.{◌≡◌};
-ghost use Rattle.call_driver.specs.Burials.{IsBurial, IsDeadBuried, IsRenewed, IsSettledBuried, LeavesBook, after_join};
+ghost use Rattle.std.specs.Prelude.{◌≡◌, ◌≢◌, true, false};
+ghost use Rattle.call_driver.specs.Burials.{IsBurial, IsDeadBuried, IsRenewed, IsSettledBuried, LeavesBook, after_bury, after_join, after_settle};
 ghost use Rattle.call_driver.specs.EventOwner.{IsOfClient};
 ghost use Rattle.call_driver.specs.Runs.{Leads};
 ghost use Rattle.interleavings.specs.event_steps.declared.event.Event.TheVariants as event;
 ghost use Rattle.interleavings.specs.event_steps.declared.outcome.Outcome.{Outcome};
+ghost use Rattle.interleavings.specs.libfs.declared.life.Life.TheVariants as lives;
 
 use crate::digests::{digest_all, wipe_all};
 use crate::events::Events;
@@ -20,6 +21,17 @@ pub enum BuryResult {
     Idle,
     /// An event was refused. What was done before it stays, and a further burial goes on from there.
     Refused(Refusal),
+}
+
+/// Whether a client asks no calls any more: it died, and no other has joined in its seat.
+pub fn is_dead<E: Events>(events: &E, client: u32) -> bool
+    ensures dead { result ≡ true → E.lives events.now client ≢ lives.Alive }
+    ensures alive { result ≡ false → E.lives events.now client ≡ lives.Alive }
+{
+    match events.life(client) {
+        Life::Alive => false,
+        _ => true,
+    }
 }
 
 /// Buries a client that died, from where its life has come: its begun call is settled; all that it logged is digested; its units, numbers, pins and leases go; its regions are wiped; and a new client takes its seat. No
@@ -41,10 +53,21 @@ fn bury_dead<E: Events>(events: &mut E, client: u32) -> BuryResult
     ensures buried { IsDeadBuried E.Events client result events.old events.new }
     ensures events { Leads E.plays (IsOfClient client) events.old events.new }
 {
-    match events.play(&Event::Settle { client }) {
-        Outcome::Settled { fate } => bury_settled(events, client, fate.kind()),
-        Outcome::Refused { refusal } => BuryResult::Refused(refusal),
-        _ => BuryResult::Idle,
+    let outcome = events.play(&Event::Settle { client });
+    match found_of(outcome) {
+        Ok(found) => bury_settled(events, client, found),
+        Err(end) => end,
+    }
+}
+
+// What became of the call that was settled, or how the burial ends.
+fn found_of(outcome: Outcome) -> Result<Found, BuryResult>
+    ensures { result ≡ after_settle outcome }
+{
+    match outcome {
+        Outcome::Settled { fate } => Ok(fate.kind()),
+        Outcome::Refused { refusal } => Err(BuryResult::Refused(refusal)),
+        _ => Err(BuryResult::Idle),
     }
 }
 
@@ -64,10 +87,21 @@ fn leave_book<E: Events>(events: &mut E, client: u32, found: Found) -> BuryResul
     ensures buried { LeavesBook E.Events client found result events.old events.new }
     ensures events { Leads E.plays (IsOfClient client) events.old events.new }
 {
-    match events.play(&Event::Bury { client }) {
-        Outcome::Buried => renew_seat(events, client, found),
-        Outcome::Refused { refusal } => BuryResult::Refused(refusal),
-        _ => BuryResult::Idle,
+    let outcome = events.play(&Event::Bury { client });
+    match buried_of(found, outcome) {
+        Ok(found) => renew_seat(events, client, found),
+        Err(end) => end,
+    }
+}
+
+// How the call of a client was found that is buried, or how the burial ends.
+fn buried_of(found: Found, outcome: Outcome) -> Result<Found, BuryResult>
+    ensures { result ≡ after_bury found outcome }
+{
+    match outcome {
+        Outcome::Buried => Ok(found),
+        Outcome::Refused { refusal } => Err(BuryResult::Refused(refusal)),
+        _ => Err(BuryResult::Idle),
     }
 }
 
@@ -86,7 +120,14 @@ fn join<E: Events>(events: &mut E, client: u32, found: Found) -> BuryResult
     ensures joined { (o : Outcome) × E.plays events.old (event.Join client) o events.new × (result ≡ after_join found o) }
     ensures events { Leads E.plays (IsOfClient client) events.old events.new }
 {
-    match events.play(&Event::Join { client }) {
+    joined_of(found, events.play(&Event::Join { client }))
+}
+
+// Whether another client has the seat of one whose call was found so.
+fn joined_of(found: Found, outcome: Outcome) -> BuryResult
+    ensures { result ≡ after_join found outcome }
+{
+    match outcome {
         Outcome::Joined => BuryResult::Buried(found),
         _ => BuryResult::Idle,
     }

@@ -8,12 +8,13 @@ ghost use Rattle.call_driver.specs.Runs.{Leads, IsLast};
 ghost use Rattle.call_driver.specs.Calls.{IsBegunCall, IsCarriedOn, IsServedCall, IsReadyCall};
 ghost use Rattle.call_driver.specs.EventOwner.{IsOfClient, IsServing, IsAsking};
 
+use crate::burials::is_dead;
 use crate::call_result::{CallResult, deny, start, step_call};
 use crate::events::Events;
 use crate::needs::{NeedResult, serve_need};
 use interleavings::in_event_steps::Event;
 use interleavings::in_lease_manager::INODES;
-use interleavings::in_libfs::{Denied, Life};
+use interleavings::in_libfs::Denied;
 use posix_calls::Call;
 
 // More turns than any call has needs. An inode may be needed in five ways: unpinned, leased for reading and for writing, fetched and pinned, and a lease is asked for again once others have handed it over: that
@@ -57,7 +58,7 @@ pub fn begin_call<E: Events>(
     ensures events { Leads E.plays (IsServing hands_over client) events.old events.new }
     ensures answered { (reply : Reply) → result ≡ CallResult.Reply reply → IsLast E.plays (IsAsking client call) reply events.new }
 {
-    if events.life(client) != Life::Alive || events.is_pending(client) {
+    if is_dead(events, client) || events.is_pending(client) {
         return CallResult::Blocked;
     }
     let event = Event::Start { client, call };

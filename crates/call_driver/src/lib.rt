@@ -12,7 +12,7 @@ mod needs;
 mod system;
 mod world_events;
 
-pub use burials::{BuryResult, bury_client};
+pub use burials::{BuryResult, bury_client, is_dead};
 pub use call_result::{CallResult, step_call};
 pub use calls::{begin_call, serve_call};
 pub use digests::{clear_client, digest_all, wipe_all};

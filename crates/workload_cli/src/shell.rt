@@ -1,7 +1,7 @@
 // A running system answers the lines of a script.
-ghost use Rattle.std.specs.Prelude.{◌≡◌, ◌↔◌, IsTrue};
+ghost use Rattle.std.specs.Prelude.{◌≡◌, true, false};
 ghost use Rattle.script.specs.LineValues.{system_line_seen};
-ghost use Rattle.workload_cli.specs.LineResults.{IsAnswerTo, IsDead, IsDigestAnswered, IsWipeAnswered, asking_in};
+ghost use Rattle.workload_cli.specs.LineResults.{IsAnswerTo, IsDead, IsDigestAnswered, IsLiveAnswer, IsWipeAnswered, asking_in};
 ghost use Rattle.workload_cli.specs.AnswerText.{book_answer};
 
 use crate::answer::Answer;
@@ -9,12 +9,11 @@ use crate::calls::{answer_call, answer_step};
 use crate::deaths::{answer_bury, answer_die};
 use crate::system_queries::Running;
 use crate::tiers::{answer_migrate, answer_where};
-use call_driver::in_libfs::Life;
-use call_driver::{Events, clear_client, wipe_all};
+use call_driver::{Events, clear_client, is_dead, wipe_all};
 use script::SystemLine;
 use std::alloc::Global;
 
-/// What a line is answered. A line of a client that is dead is blocked, and no event is played. Where there is no memory to build its call or its path, no event is played. A line that stops, fails or recovers a world asks nothing of a running system.
+/// What a line is answered. A line of a client that is dead, but `die` and `bury`, is blocked, and no event is played. Where there is no memory to build its call or its path, none is either. A line that stops, fails or recovers a world asks nothing of a running system.
 pub fn answer_line<S: Events + Running>(
     alloc: Global,
     system: &mut S,
@@ -22,9 +21,16 @@ pub fn answer_line<S: Events + Running>(
 ) -> Answer
     ensures { IsAnswerTo S.Events S.Running system.old (system_line_seen line.entry) result system.new }
 {
-    if is_dead(system, asking_client(&line)) {
+    if is_of_dead(system, asking_client(&line)) {
         return Answer::Blocked;
     }
+    answer_live(alloc, system, line)
+}
+
+// The same of a line whose client, if it wants one, lives.
+fn answer_live<S: Events + Running>(alloc: Global, system: &mut S, line: SystemLine<'_>) -> Answer
+    ensures { IsLiveAnswer S.Events S.Running system.old (system_line_seen line.entry) result system.new }
+{
     match line {
         SystemLine::Silent => Answer::Silent,
         SystemLine::Call {
@@ -66,11 +72,12 @@ fn asking_client(line: &SystemLine<'_>) -> Option<u32>
 }
 
 // Whether there is such a client and it is dead.
-fn is_dead<S: Events + Running>(system: &S, client: Option<u32>) -> bool
-    ensures { IsTrue result ↔ IsDead S.Events system.now client }
+fn is_of_dead<S: Events + Running>(system: &S, client: Option<u32>) -> bool
+    ensures dead { result ≡ true → IsDead S.Events system.now client }
+    ensures alive { result ≡ false → IsDead S.Events system.now client → ⊥ }
 {
     match client {
-        Some(client) => system.life(client) != Life::Alive,
+        Some(client) => is_dead(system, client),
         None => false,
     }
 }
