@@ -32,6 +32,7 @@ after_refusal refusals.NoInode = turns.Denied denied.NoInode
 after_refusal refusals.KernelFailed = turns.Denied denied.KernelFailed
 after_refusal refusals.InUse = turns.Blocked
 after_refusal refusals.Memory = turns.Denied denied.Memory
+after_refusal (refusals.NotDigested count) = turns.Blocked
 
 abbrev pub after_asking : EventResult → NeedResult
 after_asking did.Done = turns.Again

@@ -1,18 +1,20 @@
 // A running system answers the lines of a script.
-ghost use Rattle.std.specs.Prelude.{◌≡◌};
+ghost use Rattle.std.specs.Prelude.{◌≡◌, ◌↔◌, IsTrue};
 ghost use Rattle.script.specs.LineValues.{system_line_seen};
-ghost use Rattle.workload_cli.specs.LineResults.{IsAnswerTo, IsDigestAnswered, IsWipeAnswered};
+ghost use Rattle.workload_cli.specs.LineResults.{IsAnswerTo, IsDead, IsDigestAnswered, IsWipeAnswered, asking_in};
 ghost use Rattle.workload_cli.specs.AnswerText.{book_answer};
 
 use crate::answer::Answer;
 use crate::calls::{answer_call, answer_step};
+use crate::deaths::{answer_bury, answer_die};
 use crate::system_queries::Running;
 use crate::tiers::{answer_migrate, answer_where};
+use call_driver::in_libfs::Life;
 use call_driver::{Events, clear_client, wipe_all};
 use script::SystemLine;
 use std::alloc::Global;
 
-/// What a line is answered. Where there is no memory to build its call or its path, no event is played. A line that stops, fails or recovers a world asks nothing of a running system.
+/// What a line is answered. A line of a client that is dead is blocked, and no event is played. Where there is no memory to build its call or its path, no event is played. A line that stops, fails or recovers a world asks nothing of a running system.
 pub fn answer_line<S: Events + Running>(
     alloc: Global,
     system: &mut S,
@@ -20,6 +22,9 @@ pub fn answer_line<S: Events + Running>(
 ) -> Answer
     ensures { IsAnswerTo S.Events S.Running system.old (system_line_seen line.entry) result system.new }
 {
+    if is_dead(system, asking_client(&line)) {
+        return Answer::Blocked;
+    }
     match line {
         SystemLine::Silent => Answer::Silent,
         SystemLine::Call {
@@ -37,11 +42,36 @@ pub fn answer_line<S: Events + Running>(
         SystemLine::Step { client } => answer_step(system, client),
         SystemLine::Digest { client } => answer_digest(system, client),
         SystemLine::Wipe { client } => answer_wipe(system, client),
+        SystemLine::Die { client } => answer_die(system, client),
+        SystemLine::Bury { client } => answer_bury(system, client),
         SystemLine::Book => answer_book(system),
         SystemLine::Stop { .. }
         | SystemLine::Halt { .. }
         | SystemLine::Fail { .. }
         | SystemLine::Recover => Answer::Silent,
+    }
+}
+
+// The client that a line wants to be alive.
+fn asking_client(line: &SystemLine<'_>) -> Option<u32>
+    ensures { result ≡ asking_in (system_line_seen line.now) }
+{
+    match line {
+        SystemLine::Call { client, .. } => Some(*client),
+        SystemLine::Step { client } => Some(*client),
+        SystemLine::Digest { client } => Some(*client),
+        SystemLine::Wipe { client } => Some(*client),
+        _ => None,
+    }
+}
+
+// Whether there is such a client and it is dead.
+fn is_dead<S: Events + Running>(system: &S, client: Option<u32>) -> bool
+    ensures { IsTrue result ↔ IsDead S.Events system.now client }
+{
+    match client {
+        Some(client) => system.life(client) != Life::Alive,
+        None => false,
     }
 }
 
