@@ -97,7 +97,7 @@ fn clients_of(
 {
     let mut clients = room;
     for seat in seats {
-        let (client, ..) = seat.into_parts();
+        let (client, _, _) = seat.into_parts();
         clients.push_reserved(client);
     }
     clients
