@@ -1,4 +1,5 @@
 pub mod Busy
+pub mod DeathEnds
 pub mod Handover
 pub mod LastCalls
 pub mod LeaseReturn

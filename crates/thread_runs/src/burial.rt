@@ -1,4 +1,4 @@
-//! What a client left that died is emptied, beside those that live.
+//! What a client left that died is buried, beside those that live.
 ghost use Rattle.std.specs.Prelude.{◌≡◌, true};
 ghost use Rattle.strata_threads.specs.libfs.Lives.{is_settled};
 ghost use Rattle.strata_threads.specs.libfs.declared.life.Life.TheVariants as lives;
@@ -11,26 +11,36 @@ use std::sync::Wait;
 use strata_threads::in_libfs::{BuryError, Fate};
 use strata_threads::{SharedKernel, ThreadRemains};
 
-/// Settles the call of a client that died, has its log digested, buries it, and wipes its regions. It answers what became of the call.
-///
-/// Refused with `Stopped` where a region stopped.
-pub(crate) fn empty<R: Wait>(
+/// How the burial of a client ended.
+#[derive(Drop)]
+pub struct Burial {
+    /// What became of its last call, where that was found.
+    pub fate: Option<Fate>,
+    /// Why it was not buried, or why nobody could take its seat.
+    pub refused: Option<RunEnd>,
+}
+
+/// Settles the call of a client that died, has its log digested, buries it, and wipes its regions. Where a region stops in that the burial ends there, as a run does.
+pub(crate) fn bury<R: Wait>(
     rt: &R,
     shared: &SharedKernel<RunMedium>,
     remains: &mut ThreadRemains<RunMedium>,
-) -> Result<Fate, RunEnd>
+) -> Burial
     requires dead { remains.old.remains.life ≡ lives.Dead }
 {
     match remains.settle() {
-        Ok(fate) => {
-            empty_settled(rt, shared, remains)?;
-            Ok(fate)
-        }
-        Err(_) => Err(RunEnd::Stopped),
+        Ok(fate) => Burial {
+            fate: Some(fate),
+            refused: empty(rt, shared, remains).err(),
+        },
+        Err(_) => Burial {
+            fate: None,
+            refused: Some(RunEnd::Stopped),
+        },
     }
 }
 
-fn empty_settled<R: Wait>(
+fn empty<R: Wait>(
     rt: &R,
     shared: &SharedKernel<RunMedium>,
     remains: &mut ThreadRemains<RunMedium>,

@@ -1,3 +1,4 @@
+use crate::burial::Burial;
 use crate::client_tree::ClientTree;
 use crate::draws::Draws;
 use crate::options::Options;
@@ -166,7 +167,7 @@ impl ClientTree {
     }
 
     // Judges what became of the call of a client that died, or notes why it could not be buried. A run that a difference, a stop or a fault has ended before stays ended so.
-    fn end_burial(&mut self, turns: u64, burial: Result<Fate, RunEnd>) {
+    fn end_burial(&mut self, turns: u64, burial: Burial) {
         let turn = match self.end {
             Some((turn, RunEnd::Died)) => turn,
             Some(_) => return,
@@ -177,8 +178,18 @@ impl ClientTree {
         }
     }
 
-    fn judge_burial(&mut self, burial: Result<Fate, RunEnd>) -> Result<(), RunEnd> {
-        let fate = burial?;
+    fn judge_burial(&mut self, burial: Burial) -> Result<(), RunEnd> {
+        if let Some(fate) = burial.fate {
+            self.judge_fate(fate)?;
+        }
+        match burial.refused {
+            Some(why) => Err(why),
+            None => Ok(()),
+        }
+    }
+
+    // A call that was found whole is asked of the tree, and has to do the same there; a call that is gone is not.
+    fn judge_fate(&mut self, fate: Fate) -> Result<(), RunEnd> {
         let line = self.unanswered.take();
         let Fate::Whole { reply } = fate else {
             return Ok(());

@@ -2,14 +2,13 @@
 ghost use Rattle.std.specs.Prelude.{◌≡◌};
 ghost use Rattle.strata_threads.specs.libfs.declared.life.Life.TheVariants as lives;
 
-use crate::burial::empty;
+use crate::burial::{Burial, bury};
 use crate::region_stops::RunMedium;
 use crate::run_end::RunEnd;
 use posix_calls::{Call, Reply};
 use script::RunError;
 use std::alloc::Global;
 use std::sync::Wait;
-use strata_threads::in_libfs::Fate;
 use strata_threads::{CallEnd, OpenGate, SharedKernel, ThreadClient, ThreadRemains};
 
 // Turns that a call is given.
@@ -25,8 +24,8 @@ pub struct Seat {
     remains: Option<ThreadRemains<RunMedium>>,
     // Of a client that dies: how many device calls are left to it
     left: Option<u64>,
-    /// What became of the call of a client that died, or why it could not be buried.
-    pub burial: Option<Result<Fate, RunEnd>>,
+    /// How the burial of its client ended, if that died.
+    pub burial: Option<Burial>,
 }
 
 /// The seats of these clients.
@@ -124,16 +123,18 @@ impl Seat {
         requires dead { remains.remains.life ≡ lives.Dead }
     {
         let mut remains = remains;
-        let burial = empty(rt, shared, &mut remains);
+        self.burial = Some(bury(rt, shared, &mut remains));
         match remains.into_client() {
-            Ok(client) => {
-                self.client = Some(client);
-                self.burial = Some(burial);
-            }
-            Err(remains) => {
-                self.remains = Some(remains);
-                self.burial = Some(not_followed(burial));
-            }
+            Ok(client) => self.client = Some(client),
+            Err(remains) => self.keep(remains),
+        }
+    }
+
+    // Nobody can take the seat: what its client left stays.
+    fn keep(&mut self, remains: ThreadRemains<RunMedium>) {
+        self.remains = Some(remains);
+        if let Some(burial) = &mut self.burial {
+            burial.refused = burial.refused.or(Some(RunEnd::Fault(RunError::Damaged)));
         }
     }
 
@@ -160,13 +161,5 @@ impl Seat {
         Option<ThreadRemains<RunMedium>>,
     ) {
         (self.client, self.remains)
-    }
-}
-
-// How a burial ended behind which no other client could take the seat.
-fn not_followed(burial: Result<Fate, RunEnd>) -> Result<Fate, RunEnd> {
-    match burial {
-        Ok(_) => Err(RunEnd::Fault(RunError::Damaged)),
-        Err(why) => Err(why),
     }
 }
