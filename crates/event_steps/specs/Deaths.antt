@@ -1,5 +1,5 @@
 -- What the events of a client's end make of its seat.
-use Rattle.std.specs.Prelude.{◌≡◌, false, None, IsSome, OnOk, OnErr, Result, Ok, Err}
+use Rattle.std.specs.Prelude.{◌≡◌, None, IsSome, OnOk, OnErr, Result, Ok, Err}
 use Rattle.tier_device.specs.declared.media.Media.{Ghosts}
 use Rattle.libfs.specs.client_log.Calls.{IsMovedOnce}
 use Rattle.libfs.specs.client_log.declared.error.LogError.{LogError}

@@ -1,10 +1,9 @@
 -- What settling, burying and renewing make of a client that died.
-use Rattle.std.specs.Prelude.{◌≡◌, ◌≢◌, ◌↔◌, ◌+◌, ℕ, Bool, true, false, List, [], length, Option, Some, None, is_some, get_or, Result, Ok, Err, IsOk, IfOk, IfErr, IfSome, OnOk, OnErr}
+use Rattle.std.specs.Prelude.{◌≡◌, ◌≢◌, ◌↔◌, ◌+◌, ℕ, true, false, [], length, None, is_some, get_or, Result, Err, IsOk, IfOk, IfErr, IfSome, OnOk, OnErr}
 use Rattle.tier_device.specs.declared.media.Media.{Ghosts}
 use Rattle.tier_device.specs.declared.media.Tier.TheVariants.{Fast}
 use Rattle.posix_calls.specs.declared.limits.TheConstants.{MAX_INODE}
 use Rattle.client_log.specs.update_log.declared.format.TheConstants.{OPEN}
-use Rattle.client_log.specs.call_effects.Knowledge.{Knowledge}
 use Rattle.client_log.specs.declared.error.LogError.{LogError}
 use Rattle.client_log.specs.declared.error.LogError.TheVariants.{DeviceFault}
 use Rattle.client_log.specs.Turns.{turn_of, record_appended, record_given_up}

@@ -104,7 +104,7 @@ impl<M: Media> Client<M> {
     /// Refused, with nothing changed of client and kernel: `NotDigested`, with their number, exactly where records are undigested or in a region that is not back; else `KernelFailed`,
     /// exactly where a device of the kernel has failed.
     pub fn bury<S: Media>(&mut self, kernel: &mut Kernel<S>) -> Result<(), BuryError>
-        ensures { Buries M.Media S.Media kernel.old self.old result self.new kernel.new }
+        ensures buries { Buries M.Media S.Media kernel.old self.old result self.new kernel.new }
     {
         let count = self.unburied_count();
         if count > 0 {

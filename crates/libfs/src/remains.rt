@@ -198,13 +198,11 @@ impl<M: Media> Remains<M> {
             Life::Settled { found } => found,
             _ => unreachable!(),
         };
-        match self.client.bury(kernel) {
-            Ok(()) => {
-                self.life = Life::Buried { found };
-                Ok(())
-            }
-            Err(error) => Err(error),
+        let answer = self.client.bury(kernel);
+        if answer.is_ok() {
+            self.life = Life::Buried { found };
         }
+        answer
     }
 
     /// The pass, the log's generation and the regions that are here, as `Client::detach` gives them.

@@ -15,7 +15,7 @@ invariant_of-self g c =
     (waits_yet s.begun s.answered s.log.failed some c.self.invariant.failed c.in-Ok-true.ensures.sound.0)
     (c.in-Ok-true.ensures.appended c.in-Ok-true.field-0-test) (ap (λ (l : LogView _). l.other) c.settle.ensures.rest) c.keep_record-reply.ensures.none
     c.keep_record-reply.ensures.known c.keep_record-reply.ensures.pushed c.keep_record-reply.ensures.away)
-    c.close_all-in-Ok-true.new.self c.keep_record-reply.ensures.none (ap (λ (h : Held). h.client) c.close_all-in-Ok-true.ensures.rest) (ap (λ (h : Held). h.copies) c.close_all-in-Ok-true.ensures.rest)
+    c.close_all.new.self c.keep_record-reply.ensures.none (ap (λ (h : Held). h.client) c.close_all.ensures.rest) (ap (λ (h : Held). h.copies) c.close_all.ensures.rest)
 
 pub drop_record-requires-clause-fit : goal.drop_record-requires-clause-fit
 drop_record-requires-clause-fit g c = λ b is. (c.self.invariant.prepared b is).spelled.fit
