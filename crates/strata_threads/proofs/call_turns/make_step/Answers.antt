@@ -1,4 +1,4 @@
-use Rattle.strata_threads.proofs.Started.{leases_stay, owner_stays, step_ends, step_goes, step_is_last, step_moves}
+use Rattle.strata_threads.proofs.Started.{leases_stay, owner_stays, step_ends, step_moves}
 use Rattle.strata_threads.proofs.call_turns.make_step.Goals as goal
 
 pub returns-clause-owner : goal.returns-clause-owner
@@ -15,11 +15,3 @@ returns-clause-idle g c = (step_moves g.M.Media c.args.client.now c.step.new.sel
 
 pub returns-clause-ended : goal.returns-clause-ended
 returns-clause-ended g c = step_ends g.M.Media c.args.client.now c.step.new.self c.step.result _ c.requires.pending c.step.ensures.going c.step.ensures.replied c.step.ensures.failed
-
-pub returns-clause-stage : goal.returns-clause-stage
-returns-clause-stage g c = λ none.
-    let goes = step_goes g.M.Media c.args.client.now c.step.new.self c.step.result _ c.requires.pending c.step.ensures.replied c.step.ensures.failed none in
-    (goes.0, c.step.ensures.stage goes.1)
-
-pub returns-clause-last : goal.returns-clause-last
-returns-clause-last g c = λ some sound. step_is_last g.M.Media c.args.client.now c.step.new.self c.step.result _ c.step.ensures.going some sound
