@@ -1,6 +1,6 @@
 -- How far the device calls of a record have come, what a device call of a wipe is, and how a call that was answered is replied.
 use Rattle.std.proofs.Common.{◌≡◌, ◌≢◌, ◌⊎◌, ◌<◌, ◌≤◌, ◌+◌, inl, inr, ℕ, Bool, true, false, Option, Some, None, Result, Ok, Err, ap, arith, refl, sym, ◌∙◌, subst}
-use Rattle.std.specs.Prelude.{IsErrOf, OnOk, ◌↔◌}
+use Rattle.std.specs.Prelude.{IfSome, IsErrOf, OnOk, ◌↔◌}
 use Rattle.tier_device.specs.declared.media.Media.{Ghosts}
 use Rattle.posix_calls.specs.declared.call.Call.{Call}
 use Rattle.posix_calls.specs.declared.call.Reply.{Reply}
@@ -19,7 +19,8 @@ use Rattle.libfs.specs.View.{ClientView}
 use Rattle.libfs.specs.declared.denial.Denied.{Denied}
 use Rattle.libfs.specs.declared.denial.Denied.TheVariants as denied
 use Rattle.strata_threads.specs.CallDenials.{HasUnmetNeed}
-use Rattle.strata_threads.specs.ClientCalls.{IsAnswered}
+use Rattle.libfs.specs.declared.now.Now.TheVariants as now
+use Rattle.strata_threads.specs.ClientCalls.{IsAnswered, IsFinished, IsStarted}
 use Rattle.strata_threads.specs.ClientDeath.{IsReplied}
 use Rattle.strata_threads.specs.RegionWipe.{WipesOn, clock_of, other_clock}
 use Rattle.strata_threads.specs.WaitedTurns.{WaitedView}
@@ -56,37 +57,47 @@ last_one stages.WipeFailed last = absurd cc
 
 -- ---- wipes
 
-module _ {M : Type 0} (device : Ghosts M) (old new : LogView M) (p : WipeProgress) where
-  none_made : Ok (Some p) ≡ Ok None → ⊥
-  none_made e = absurd cc
+-- what a device call of a wipe answers
+abbrev Answer : Type 0
+Answer = Result (Option WipeProgress) LogError
 
-  by_other : (o : Option (RegionView M)) → old.other ≡ o
-      → ((r : RegionView M) → old.other ≡ Some r → WipesOther device r old new (Ok (Some p)))
-      → ((old.clean ≡ true) ⊎ (old.other ≡ None) → Ok (Some p) ≡ Ok None)
+abbrev Told : Answer → Answer → Type 0
+Told a b = a ≡ b
+
+pub none_made : (o : Option WipeProgress) (p : WipeProgress) → o ≡ Some p → Told (Ok o) (Ok None) → ⊥
+none_made o p is told = absurd cc
+
+module _ {M : Type 0} (device : Ghosts M) (old new : LogView M) (o : Option WipeProgress) (p : WipeProgress) (made : o ≡ Some p) where
+  by_current : WipesCurrent device old new (Ok o) → WipesOn device old p new
+  by_current w = inl (subst (λ (x : Option WipeProgress). WipesCurrent device old new (Ok x)) made w)
+
+  by_other : (r : Option (RegionView M)) → old.other ≡ r
+      → ((r : RegionView M) → old.other ≡ Some r → WipesOther device r old new (Ok o))
+      → ((old.clean ≡ true) ⊎ (old.other ≡ None) → Told (Ok o) (Ok None))
       → WipesOn device old p new
-  by_other None is other nothing = absurd (none_made (nothing (inr is)))
-  by_other (Some r) is other nothing = inr (r, is, other r is)
+  by_other None is other nothing = absurd (none_made o p made (nothing (inr is)))
+  by_other (Some r) is other nothing = inr (r, is, subst (λ (x : Option WipeProgress). WipesOther device r old new (Ok x)) made (other r is))
 
   by_clean : (clean : Bool) → old.clean ≡ clean
-      → (old.clean ≡ false → (r : RegionView M) → old.other ≡ Some r → WipesOther device r old new (Ok (Some p)))
-      → ((old.clean ≡ true) ⊎ (old.other ≡ None) → Ok (Some p) ≡ Ok None)
+      → (old.clean ≡ false → (r : RegionView M) → old.other ≡ Some r → WipesOther device r old new (Ok o))
+      → ((old.clean ≡ true) ⊎ (old.other ≡ None) → Told (Ok o) (Ok None))
       → WipesOn device old p new
-  by_clean true is other nothing = absurd (none_made (nothing (inl is)))
+  by_clean true is other nothing = absurd (none_made o p made (nothing (inl is)))
   by_clean false is other nothing = by_other old.other refl (other is) nothing
 
   by_ready : (ready : Bool) → old.ready ≡ ready
-      → (old.ready ≡ false → WipesCurrent device old new (Ok (Some p)))
-      → (old.ready ≡ true → old.clean ≡ false → (r : RegionView M) → old.other ≡ Some r → WipesOther device r old new (Ok (Some p)))
-      → (old.ready ≡ true → (old.clean ≡ true) ⊎ (old.other ≡ None) → Ok (Some p) ≡ Ok None)
+      → (old.ready ≡ false → WipesCurrent device old new (Ok o))
+      → (old.ready ≡ true → old.clean ≡ false → (r : RegionView M) → old.other ≡ Some r → WipesOther device r old new (Ok o))
+      → (old.ready ≡ true → (old.clean ≡ true) ⊎ (old.other ≡ None) → Told (Ok o) (Ok None))
       → WipesOn device old p new
   by_ready true is current other nothing = by_clean old.clean refl (other is) (nothing is)
-  by_ready false is current other nothing = inl (current is)
+  by_ready false is current other nothing = by_current (current is)
 
   -- a device call of a wipe was made of one region or of the other
   pub wipes_on :
-      (old.ready ≡ false → WipesCurrent device old new (Ok (Some p)))
-      → (old.ready ≡ true → old.clean ≡ false → (r : RegionView M) → old.other ≡ Some r → WipesOther device r old new (Ok (Some p)))
-      → (old.ready ≡ true → (old.clean ≡ true) ⊎ (old.other ≡ None) → Ok (Some p) ≡ Ok None)
+      (old.ready ≡ false → WipesCurrent device old new (Ok o))
+      → (old.ready ≡ true → old.clean ≡ false → (r : RegionView M) → old.other ≡ Some r → WipesOther device r old new (Ok o))
+      → (old.ready ≡ true → (old.clean ≡ true) ⊎ (old.other ≡ None) → Told (Ok o) (Ok None))
       → WipesOn device old p new
   wipes_on = by_ready old.ready refl
 
@@ -110,14 +121,35 @@ module _ {M : Type 0} (device : Ghosts M) where
 
 -- ---- replies
 
+ok_is_no_refusal : (reply : Reply) (why : Denied) (r : Result Reply Denied) → r ≡ Ok reply → IsErrOf r why → ⊥
+ok_is_no_refusal reply why r is err = absurd cc
+
+abbrev why_in : Denied → Result Reply Denied → Denied
+why_in other (Ok reply) = other
+why_in other (Err why) = why
+
+same_why : (why other : Denied) (r : Result Reply Denied) → r ≡ Err why → IsErrOf r other → why ≡ other
+same_why why other r is err = ap (why_in other) (sym is ∙ err)
+
 module _ {M : Type 0} (device : Ghosts M) (call : Call) (v : ClientView M) (waited : WaitedView) where
   -- turns are left
   pub answers : (reply : Reply) → waited.count < waited.turns → IsAnswered device call reply v → IsReplied device call v waited reply
-  answers reply left is = (Ok reply, refl, (λ none. absurd none, λ over. absurd (omega (arith, left, over))), is)
+  answers reply left is = (Ok reply, refl, (λ err. absurd (ok_is_no_refusal reply denied.Turns (Ok reply) refl err), λ over. absurd (omega (arith, left, over))), is)
 
   pub denies : (why : Denied) → why ≢ denied.Turns → waited.count < waited.turns → HasUnmetNeed device call why v → IsReplied device call v waited (replies.Failed (errno_of why))
-  denies why other left unmet = (Err why, refl, (λ is. absurd (other is), λ over. absurd (omega (arith, left, over))), inr unmet)
+  denies why other left unmet = (Err why, refl, (λ err. absurd (other (same_why why denied.Turns (Err why) refl err)), λ over. absurd (omega (arith, left, over))), inr unmet)
 
   -- none is
   pub gives_up : waited.count ≡ waited.turns → IsReplied device call v waited (replies.Failed (errno_of denied.Turns))
   gives_up over = (Err denied.Turns, refl, (λ _. over, λ _. refl), inl refl)
+
+pub replied_as : {M : Type 0} (device : Ghosts M) (call : Call) (v v0 : ClientView M) (w w0 : WaitedView) (r r0 : Reply) → v ≡ v0 → w ≡ w0 → r ≡ r0 → IsReplied device call v0 w0 r0 → IsReplied device call v w r
+replied_as {M} device call v v0 w w0 r r0 ve we re is =
+    subst (λ (x : ClientView M). IsReplied device call x w r) (sym ve)
+        (subst (λ (x : WaitedView). IsReplied device call v0 x r) (sym we)
+            (subst (λ (x : Reply). IsReplied device call v0 w0 x) (sym re) is))
+
+-- a call is answered whose record was begun as it was started, and then finished
+pub finished_answers : {M : Type 0} (device : Ghosts M) (call : Call) (old begun new : ClientView M) (o : Option Reply) → IsStarted device call old now.Pending begun → IfSome o (λ reply. IsFinished device begun reply new) → IfSome o (λ reply. IsAnswered device call reply new)
+finished_answers device call old begun new None started finished = tt
+finished_answers device call old begun new (Some reply) started finished = (old, inr (begun, started, finished))
