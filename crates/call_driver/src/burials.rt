@@ -54,14 +54,14 @@ fn bury_dead<E: Events>(events: &mut E, client: u32) -> BuryResult
     ensures events { Leads E.plays (IsOfClient client) events.old events.new }
 {
     let outcome = events.play(&Event::Settle { client });
-    match found_of(outcome) {
+    match after_settle(outcome) {
         Ok(found) => bury_settled(events, client, found),
         Err(end) => end,
     }
 }
 
 // What became of the call that was settled, or how the burial ends.
-fn found_of(outcome: Outcome) -> Result<Found, BuryResult>
+fn after_settle(outcome: Outcome) -> Result<Found, BuryResult>
     ensures { result ≡ after_settle outcome }
 {
     match outcome {
@@ -88,14 +88,14 @@ fn leave_book<E: Events>(events: &mut E, client: u32, found: Found) -> BuryResul
     ensures events { Leads E.plays (IsOfClient client) events.old events.new }
 {
     let outcome = events.play(&Event::Bury { client });
-    match buried_of(found, outcome) {
+    match after_bury(found, outcome) {
         Ok(found) => renew_seat(events, client, found),
         Err(end) => end,
     }
 }
 
 // How the call of a client was found that is buried, or how the burial ends.
-fn buried_of(found: Found, outcome: Outcome) -> Result<Found, BuryResult>
+fn after_bury(found: Found, outcome: Outcome) -> Result<Found, BuryResult>
     ensures { result ≡ after_bury found outcome }
 {
     match outcome {
@@ -120,11 +120,11 @@ fn join<E: Events>(events: &mut E, client: u32, found: Found) -> BuryResult
     ensures joined { (o : Outcome) × E.plays events.old (event.Join client) o events.new × (result ≡ after_join found o) }
     ensures events { Leads E.plays (IsOfClient client) events.old events.new }
 {
-    joined_of(found, events.play(&Event::Join { client }))
+    after_join(found, events.play(&Event::Join { client }))
 }
 
 // Whether another client has the seat of one whose call was found so.
-fn joined_of(found: Found, outcome: Outcome) -> BuryResult
+fn after_join(found: Found, outcome: Outcome) -> BuryResult
     ensures { result ≡ after_join found outcome }
 {
     match outcome {

@@ -6,6 +6,6 @@ use Rattle.call_driver.proofs.burials.join.Goals as goal
 
 pub returns : goal.returns
 returns g c = record {
-  joined = (c.play.result, c.play.ensures, c.joined_of.ensures);
+  joined = (c.play.result, c.play.ensures, c.after_join.ensures);
   events = leads_by g.E.Events.plays (IsOfClient c.args.client) _ (event.Join c.args.client) _ refl (c.play.result, c.play.ensures);
 }
