@@ -3,7 +3,6 @@ use Rattle.std.proofs.Common.{◌≡◌, ◌≢◌, ◌+◌, ◌≤◌, ℕ, Boo
 use Rattle.std.specs.Prelude.{Result, Ok, Err}
 use Rattle.posix_calls.specs.declared.call.Call.{Call}
 use Rattle.interleavings.specs.client_plan.declared.need.Need.{Need}
-use Rattle.interleavings.specs.lease_manager.declared.view.LeaseMode.{LeaseMode}
 use Rattle.interleavings.specs.libfs.declared.denial.Denied.{Denied}
 use Rattle.interleavings.specs.event_steps.declared.event.Event.{Event}
 use Rattle.interleavings.specs.event_steps.declared.event.Event.TheVariants as kinds

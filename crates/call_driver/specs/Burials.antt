@@ -4,7 +4,6 @@ use Rattle.interleavings.specs.libfs.Lives.{found_in}
 use Rattle.interleavings.specs.libfs.declared.fate.Found.{Found}
 use Rattle.interleavings.specs.libfs.declared.life.Life.{Life}
 use Rattle.interleavings.specs.libfs.declared.life.Life.TheVariants as lives
-use Rattle.interleavings.specs.event_steps.declared.event.Event.{Event}
 use Rattle.interleavings.specs.event_steps.declared.event.Event.TheVariants as event
 use Rattle.interleavings.specs.event_steps.declared.outcome.Outcome.{Outcome}
 use Rattle.interleavings.specs.event_steps.declared.outcome.Outcome.TheVariants as outcome

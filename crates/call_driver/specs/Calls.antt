@@ -3,7 +3,6 @@ use Rattle.std.specs.Prelude.{◌≡◌, ◌≢◌, ◌⊎◌, ◌≤◌, ◌*�
 use Rattle.posix_calls.specs.declared.call.Call.{Call}
 use Rattle.interleavings.specs.client_plan.declared.need.Need.{Need}
 use Rattle.interleavings.specs.lease_manager.declared.layout.TheConstants.{INODES}
-use Rattle.interleavings.specs.lease_manager.declared.view.LeaseMode.{LeaseMode}
 use Rattle.interleavings.specs.libfs.declared.denial.Denied.{Denied}
 use Rattle.interleavings.specs.libfs.declared.life.Life.TheVariants as lives
 use Rattle.interleavings.specs.event_steps.declared.event.Event.{Event}

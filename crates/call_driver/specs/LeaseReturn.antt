@@ -1,12 +1,9 @@
 -- Other clients give back what a call needs.
-use Rattle.std.specs.Prelude.{◌≡◌, ◌≢◌, ◌⊎◌, ◌<◌, ℕ, zero, suc, Bool, true, false}
+use Rattle.std.specs.Prelude.{◌≡◌, ◌≢◌, ◌⊎◌, ◌<◌, ℕ, zero, suc, true, false}
 use Rattle.interleavings.specs.lease_manager.declared.layout.TheConstants.{CLIENTS}
-use Rattle.interleavings.specs.lease_manager.declared.view.LeaseMode.{LeaseMode}
 use Rattle.interleavings.specs.lease_manager.declared.view.LeaseMode.TheVariants.{Free}
 use Rattle.interleavings.specs.libfs.declared.life.Life.TheVariants as lives
-use Rattle.interleavings.specs.event_steps.declared.event.Event.{Event}
 use Rattle.interleavings.specs.event_steps.declared.event.Event.TheVariants as event
-use Rattle.interleavings.specs.event_steps.declared.outcome.Outcome.{Outcome}
 use Rattle.interleavings.specs.event_steps.declared.outcome.Refusal.{Refusal}
 use Rattle.interleavings.specs.event_steps.declared.outcome.Refusal.TheVariants as refusals
 use Rattle.call_driver.specs.EventResults.{CameTo, IsRefusedIn}

@@ -1,7 +1,6 @@
 -- A system in memory, as one that plays events.
 use Rattle.std.specs.Prelude.{◌≡◌, ℕ, Bool, false}
 use Rattle.tier_device.specs.declared.media.Media.{Ghosts}
-use Rattle.tier_device.specs.declared.media.Tier.{Tier}
 use Rattle.interleavings.specs.libfs.View.{is_pending}
 use Rattle.interleavings.specs.libfs.declared.life.Life.{Life}
 use Rattle.interleavings.specs.libfs.declared.life.Life.TheVariants as lives
