@@ -9,7 +9,7 @@ use Rattle.strata_threads.proofs.LastCalls.{gives_up, replied_as}
 use Rattle.strata_threads.proofs.thread_client.ThreadClient.take_last_turn.Goals as goal
 
 pub returns-then-left-eq0-clause-died : goal.returns-then-left-eq0-clause-died
-returns-then-left-eq0-clause-died g c = subst (λ (r : RemainsView g.row.M.Denot). HasDiedIn g.M.Media c.args.call.now c.args.left.now r.client) (sym c.abandon.ensures.remains) (inr (c.requires c.if-left-eq0.true))
+returns-then-left-eq0-clause-died g c = subst (λ (r : RemainsView g.row.M.Denot). HasDiedIn g.M.Media c.args.call.now c.args.left.now r.client) (sym c.abandon.ensures.remains) (inr (c.requires.wiped c.if-left-eq0.true))
 
 pub returns-then-is_over-clause-answered : goal.returns-then-is_over-clause-answered
 returns-then-is_over-clause-answered g c =
