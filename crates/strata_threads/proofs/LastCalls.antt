@@ -146,8 +146,8 @@ module _ {M : Type 0} (device : Ghosts M) (call : Call) (v : ClientView M) (wait
 pub replied_as : {M : Type 0} (device : Ghosts M) (call : Call) (v v0 : ClientView M) (w w0 : WaitedView) (r r0 : Reply) → v ≡ v0 → w ≡ w0 → r ≡ r0 → IsReplied device call v0 w0 r0 → IsReplied device call v w r
 replied_as {M} device call v v0 w w0 r r0 ve we re is =
     subst (λ (x : ClientView M). IsReplied device call x w r) (sym ve)
-        (subst (λ (x : WaitedView). IsReplied device call v0 x r) (sym we)
-            (subst (λ (x : Reply). IsReplied device call v0 w0 x) (sym re) is))
+    (subst (λ (x : WaitedView). IsReplied device call v0 x r) (sym we)
+    (subst (λ (x : Reply). IsReplied device call v0 w0 x) (sym re) is))
 
 -- a call is answered whose record was begun as it was started, and then finished
 pub finished_answers : {M : Type 0} (device : Ghosts M) (call : Call) (old begun new : ClientView M) (o : Option Reply) → IsStarted device call old now.Pending begun → IfSome o (λ reply. IsFinished device begun reply new) → IfSome o (λ reply. IsAnswered device call reply new)

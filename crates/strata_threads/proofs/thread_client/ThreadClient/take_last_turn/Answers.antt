@@ -17,7 +17,7 @@ returns-then-is_over-clause-answered g c =
     let call = c.args.call.now in
     let over : this.waited.count ≡ this.waited.turns = search rules in
     on_answered c.deny_call.result
-        (λ v waited reply. (v ≡ this.client) × (waited ≡ this.waited) × (reply ≡ replies.Failed (errno_of denied.Turns)))
-        (λ v waited reply. IsReplied g.M.Media call v waited reply)
-        (λ v waited reply same. replied_as g.M.Media call v this.client waited this.waited reply (replies.Failed (errno_of denied.Turns)) same.0 same.1 same.2 (gives_up g.M.Media call this.client this.waited over))
-        c.deny_call.ensures.denied
+    (λ v waited reply. (v ≡ this.client) × (waited ≡ this.waited) × (reply ≡ replies.Failed (errno_of denied.Turns)))
+    (λ v waited reply. IsReplied g.M.Media call v waited reply)
+    (λ v waited reply same. replied_as g.M.Media call v this.client waited this.waited reply (replies.Failed (errno_of denied.Turns)) same.0 same.1 same.2 (gives_up g.M.Media call this.client this.waited over))
+    c.deny_call.ensures.denied

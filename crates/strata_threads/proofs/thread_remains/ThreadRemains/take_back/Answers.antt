@@ -15,4 +15,4 @@ returns-in-Some-clause-looked g c = λ away free.
     let looked = c.take.ensures.looked free in
     let new = c.receive.new.self in
     looks_and_receives g.M.Media c.args.self.now.remains.client new.remains.client c.args.self.now.ends.tasks c.take.new.self.tasks new.ends.tasks c.args.self.now.ends.returns c.take.new.self.returns new.ends.returns c.take.result c.in-Some.region new.ends.kept
-        c.in-Some.is looked.0 looked.1 c.receive.ensures.returns c.receive.ensures.received
+    c.in-Some.is looked.0 looked.1 c.receive.ensures.returns c.receive.ensures.received

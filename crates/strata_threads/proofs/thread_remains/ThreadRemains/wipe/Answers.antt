@@ -17,9 +17,9 @@ loop-look-preserved g c =
       nothing = λ all.
           let same = (i.nothing all).1 in
           absurd (none_made c.in-Ok-Some.field-0 c.in-Ok-Some.field-0-0 c.in-Ok-Some.field-0-is (e.nothing
-              (ap (λ (r : RemainsView g.row.M.Denot). r.client.log.failed) same ∙ all.0)
-              (ap (λ (r : RemainsView g.row.M.Denot). r.client.log.ready) same ∙ all.1)
-              (subst (λ (r : RemainsView g.row.M.Denot). (r.client.log.clean ≡ true) ⊎ (r.client.log.other ≡ None)) (sym same) all.2)).0);
+          (ap (λ (r : RemainsView g.row.M.Denot). r.client.log.failed) same ∙ all.0)
+          (ap (λ (r : RemainsView g.row.M.Denot). r.client.log.ready) same ∙ all.1)
+          (subst (λ (r : RemainsView g.row.M.Denot). (r.client.log.clean ≡ true) ⊎ (r.client.log.other ≡ None)) (sym same) all.2)).0);
     }
 
 pub loop-look-init : goal.loop-look-init
