@@ -19,7 +19,7 @@ pub use disassembly::take_apart;
 pub use fresh_world::format;
 pub use part_recovery::recover;
 pub use parts::{Parts, REGIONS};
-pub use survival::recover_after_stop;
+pub use survival::{Recovered, recover_after_stop, recover_after_stops};
 
 /// Of `area_reader`, what the crates above name.
 pub mod in_area_reader {
