@@ -102,12 +102,12 @@ module _ {M N : Type 0} (device : Ghosts M) (other : Ghosts N) (old : WorldView 
 -- ---- the loop over the parts
 
 -- what holds of each of a list holds of the one behind some of them
+behind_some : {X : Type 0} (P : X → Type 0) (done rest : List X) (x : X) → AllByRecursion P (done ++ x ∷ rest) → P x
+behind_some P [] rest x each = each.0
+behind_some P (y ∷ done) rest x each = behind_some P done rest x each.1
+
 pub at_split : {X : Type 0} (P : X → Type 0) (done rest all : List X) (x : X) → done ++ x ∷ rest ≡ all → AllByRecursion P all → P x
-at_split P done rest all x split each = of_whole done (subst (AllByRecursion P) (sym split) each)
-  where
-    of_whole : (done : List X) → AllByRecursion P (done ++ x ∷ rest) → P x
-    of_whole [] each = each.0
-    of_whole (y ∷ done) each = of_whole done each.1
+at_split P done rest all x split each = behind_some P done rest x (subst (AllByRecursion P) (sym split) each)
 
 -- and what holds of two lists and of one more of each holds of all these
 pub zip_more : {A B : Type 0} (R : A → B → Type 0) (xs : List A) (ys : List B) (x : A) (y : B) → AllZip R xs ys → R x y → AllZip R (xs ++ x ∷ []) (ys ++ y ∷ [])
