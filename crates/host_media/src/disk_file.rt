@@ -1,22 +1,25 @@
 // A file in which media lie one behind the other.
-ghost use Rattle.std.specs.Prelude.{◌≡◌, ◌≢◌, ◌≤◌, ◌<◌, ◌+◌, ◌^◌, [], ◌∷◌, ◌++◌, All, map, sum_by, length, replicate, true, false, IfOk, OnOk, IsErrOf};
+ghost use Rattle.std.specs.Prelude.{◌≡◌, ◌≢◌, ◌≤◌, ◌<◌, ◌+◌, ◌^◌, [], ◌∷◌, ◌++◌, All, map, sum_by, length, replicate, true, false, IfOk, OnErr, OnOk, IsErrOf};
 ghost use Rattle.tier_device.specs.declared.media.Tier.{Tier};
 ghost use Rattle.tier_device.specs.declared.media.Tier.TheVariants.{Fast, Block, Slow};
 ghost use Rattle.tier_device.specs.Rows.{row};
 ghost use Rattle.host_media.specs.declared.error.FileProblem.TheVariants.{Length, TooLarge};
 ghost use Rattle.host_media.specs.File.{file_begin, IsOpened};
+ghost use Rattle.host_media.specs.FileBytes.{known, part_told, unknown, with_told};
+ghost use Rattle.host_media.specs.FileRange.{range_begin, range_told};
+ghost use Rattle.host_media.specs.Images.{content_bytes};
 ghost use Rattle.host_media.specs.Sizes.{byte_count};
 
 use crate::error::{FileError, FileProblem};
 use crate::file::FileMedia;
 use crate::file_bytes::{fill_file, read_tiers, write_tiers};
+use crate::file_range::FileRange;
 use crate::locked_file::{make_locked, open_locked, sync_folder};
 use crate::shared_file::SharedFile;
 use crate::sizes::{MAX_BYTES, Sizes, zeros};
 use std::alloc::{AllocError, Global};
 use std::fs::{self, File, Files};
 use std::io;
-use std::os::unix::fs::FileExt;
 use std::sync::Arc;
 use tier_device::{Tiers, lies_within};
 
@@ -27,14 +30,17 @@ use tier_device::{Tiers, lies_within};
 /// whichever medium asked for it, no other one succeeds, until the file is opened again.
 #[derive(Drop)]
 pub struct DiskFile {
-    pub(crate) shared: Arc<SharedFile>,
+    pub(crate) range: FileRange,
     len: usize,
     is_blank: bool,
     ghost short: { len < 2 ^ 63 },
+    ghost whole: { range_begin range ≡ 0 },
+    ghost long: { length (range_told range) ≡ len },
+    ghost blank: { is_blank ≡ true → range_told range ≡ known (replicate len 0) },
 }
 
 impl DiskFile {
-    ghost use Rattle.host_media.specs.DiskFile.{disk_len, is_blank, file_sizes, places_from, IsZero};
+    ghost use Rattle.host_media.specs.DiskFile.{disk_len, disk_told, is_blank, file_sizes, places_from, IsZero};
 
     /// Opens a file, and has the system keep all that it was given of it, so that nothing is pending.
     ///
@@ -46,6 +52,7 @@ impl DiskFile {
         path: &'a str,
     ) -> Result<DiskFile, FileError<'a>>
         ensures bytes { IfOk result (λ disk. is_blank disk ≡ false) }
+        ensures told { IfOk result (λ disk. disk_told disk ≡ unknown (disk_len disk)) }
     {
         match open_disk(files, alloc, path) {
             Ok(disk) => Ok(disk),
@@ -65,6 +72,7 @@ impl DiskFile {
     ) -> Result<DiskFile, FileError<'a>>
         ensures len { IfOk result (λ disk. disk_len disk ≡ len) }
         ensures blank { IfOk result (λ disk. is_blank disk ≡ true) }
+        ensures zeros { IfOk result (λ disk. disk_told disk ≡ known (replicate len 0)) }
     {
         match create_disk(files, alloc, path, len) {
             Ok(disk) => Ok(disk),
@@ -79,10 +87,13 @@ impl DiskFile {
         self.len
     }
 
-    /// Reads the bytes from a place on. Refused are a range that goes past the end of the file (`Length`), with `out` as it was, and
-    /// a read that fails, which may have changed `out`.
-    pub fn read(&self, at: usize, out: &mut [u8]) -> Result<(), FileProblem>
-        ensures within { OnOk result (at + length out.old ≤ disk_len self.now) }
+    /// Reads the bytes from a place on, and answers the range that they are, of which clauses tell which bytes are known. Refused are a range
+    /// that goes past the end of the file (`Length`), with `out` as it was, want of memory, and a read that fails, which may have
+    /// changed `out`.
+    pub fn read(&self, at: usize, out: &mut [u8]) -> Result<FileRange, FileProblem>
+        ensures within { IfOk result (λ _. at + length out.old ≤ disk_len self.now) }
+        ensures place { IfOk result (λ range. range_begin range ≡ at) }
+        ensures bytes { IfOk result (λ range. range_told range ≡ known out.new) }
         ensures same { disk_len self.now < at + length out.old → out.new ≡ out.old }
         ensures past { let end = at + length out.old in disk_len self.now < end → end < 2 ^ 64 → IsErrOf result (Length (disk_len self.now) end) }
     {
@@ -90,30 +101,34 @@ impl DiskFile {
             let wanted = at.saturating_add(out.len());
             return Err(length_problem(self.len, wanted));
         }
-        self.shared.file().read_exact_at(out, at as u64)?;
-        Ok(())
+        let mut range = self.range.part(at, out.len())?;
+        range.read(0, out)?;
+        Ok(range)
     }
 
-    /// Writes bytes from a place on; what is written is kept once it was synced. Refused are a range that goes past the end of the
-    /// file (`Length`), with the file as it was, and a write that fails, of which any part may be done.
+    /// Writes bytes from a place on, which a read then gives; what is written is kept once it was synced. Refused are a range that goes
+    /// past the end of the file (`Length`), with the file as it was, and a write that fails, of which any part may be done.
     pub fn write(&mut self, at: usize, bytes: &[u8]) -> Result<(), FileProblem>
         ensures within { OnOk result (at + length bytes.now ≤ disk_len self.old) }
         ensures past { let end = at + length bytes.now in disk_len self.old < end → end < 2 ^ 64 → IsErrOf result (Length (disk_len self.old) end) }
         ensures len { disk_len self.new ≡ disk_len self.old }
         ensures blank { OnOk result (is_blank self.new ≡ false) }
+        ensures written { OnOk result (disk_told self.new ≡ with_told (disk_told self.old) at (known bytes.now)) }
+        ensures torn { at + length bytes.now ≤ disk_len self.old → OnErr result (disk_told self.new ≡ with_told (disk_told self.old) at (unknown (length bytes.now))) }
+        ensures same { disk_len self.old < at + length bytes.now → self.new ≡ self.old }
     {
         if !lies_within(at, bytes.len(), self.len) {
             let wanted = at.saturating_add(bytes.len());
             return Err(length_problem(self.len, wanted));
         }
         self.is_blank = false;
-        self.shared.file().write_all_at(bytes, at as u64)?;
+        self.range.write(at, bytes)?;
         Ok(())
     }
 
     /// Has the system keep what was written. Refused where the system fails, and from then on always, until the file is opened again.
     pub fn sync(&self) -> Result<(), FileProblem> {
-        self.shared.sync_data()?;
+        self.range.sync_data()?;
         Ok(())
     }
 
@@ -137,9 +152,10 @@ impl DiskFile {
         if total != self.len {
             return Err(length_problem(self.len, total));
         }
+        let mut disk = self;
         let mut media = Vec::new(alloc);
-        self.push_media(alloc, sizes, &mut media)?;
-        self.sync_read()?;
+        disk.push_media(alloc, sizes, &mut media)?;
+        disk.sync_read()?;
         Ok(media)
     }
 
@@ -152,17 +168,17 @@ impl DiskFile {
     }
 
     fn push_media(
-        &self,
+        &mut self,
         alloc: Global,
         sizes: &[Sizes],
         media: &mut Vec<FileMedia>,
     ) -> Result<(), FileProblem>
-        requires fits { sum_by byte_count sizes.now ≡ disk_len self.now }
+        requires fits { sum_by byte_count sizes.now ≡ disk_len self.old }
         requires empty { length media.old.items ≡ 0 }
         ensures sizes { OnOk result (map file_sizes media.new.items ≡ sizes.now) }
         ensures places { OnOk result (map file_begin media.new.items ≡ places_from 0 sizes.now) }
         ensures opened { OnOk result (All IsOpened media.new.items) }
-        ensures zeros { is_blank self.now ≡ true → OnOk result (All IsZero media.new.items) }
+        ensures zeros { is_blank self.old ≡ true → OnOk result (All IsZero media.new.items) }
     {
         let mut begin = 0usize;
         for one in sizes {
@@ -186,31 +202,47 @@ impl DiskFile {
         if len != self.len {
             return Err(length_problem(self.len, len));
         }
-        let medium = self.medium(alloc, 0, sizes)?;
-        self.sync_read()?;
+        let mut disk = self;
+        let medium = disk.medium(alloc, 0, sizes)?;
+        disk.sync_read()?;
         Ok(medium)
     }
 
     // The medium of these sizes whose bytes begin at a place of the file.
-    fn medium(&self, alloc: Global, begin: usize, sizes: Sizes) -> Result<FileMedia, FileProblem>
-        requires fits { begin + byte_count sizes ≤ disk_len self.now }
+    fn medium(
+        &mut self,
+        alloc: Global,
+        begin: usize,
+        sizes: Sizes,
+    ) -> Result<FileMedia, FileProblem>
+        requires fits { begin + byte_count sizes ≤ disk_len self.old }
         ensures sizes { IfOk result (λ m. file_sizes m ≡ sizes) }
         ensures place { IfOk result (λ m. file_begin m ≡ begin) }
         ensures opened { IfOk result IsOpened }
-        ensures zeros { is_blank self.now ≡ true → IfOk result IsZero }
+        ensures zeros { is_blank self.old ≡ true → IfOk result IsZero }
+        ensures len { disk_len self.new ≡ disk_len self.old }
+        ensures blank { is_blank self.new ≡ is_blank self.old }
     {
         let tiers = self.make_tiers(alloc, begin, sizes)?;
-        let shared = Arc::try_clone(&self.shared)?;
-        Ok(FileMedia::of(shared, begin, tiers))
+        let len = sizes.fast + sizes.block + sizes.slow;
+        Ok(FileMedia::of(self.range.part(begin, len)?, tiers))
     }
 
     // The tiers of these sizes whose bytes begin at a place of the file, which are zeros where it was made.
-    fn make_tiers(&self, alloc: Global, begin: usize, sizes: Sizes) -> Result<Tiers, FileProblem>
-        requires fits { begin + byte_count sizes ≤ disk_len self.now }
+    fn make_tiers(
+        &mut self,
+        alloc: Global,
+        begin: usize,
+        sizes: Sizes,
+    ) -> Result<Tiers, FileProblem>
+        requires fits { begin + byte_count sizes ≤ disk_len self.old }
         ensures fast { IfOk result (λ tiers. length (row tiers Fast) ≡ sizes.fast) }
         ensures block { IfOk result (λ tiers. length (row tiers Block) ≡ sizes.block) }
         ensures slow { IfOk result (λ tiers. length (row tiers Slow) ≡ sizes.slow) }
-        ensures zeros { is_blank self.now ≡ true → IfOk result (λ tiers. (t : Tier) → row tiers t ≡ replicate (length (row tiers t)) 0) }
+        ensures zeros { is_blank self.old ≡ true → IfOk result (λ tiers. (t : Tier) → row tiers t ≡ replicate (length (row tiers t)) 0) }
+        ensures told { IfOk result (λ tiers. part_told (disk_told self.new) begin (byte_count sizes) ≡ known (content_bytes (row tiers))) }
+        ensures len { disk_len self.new ≡ disk_len self.old }
+        ensures blank { is_blank self.new ≡ is_blank self.old }
     {
         if !self.is_blank {
             return self.read_medium(alloc, begin, sizes);
@@ -219,14 +251,23 @@ impl DiskFile {
     }
 
     // The tiers of these sizes whose bytes begin at a place of the file, where they are written back.
-    fn read_medium(&self, alloc: Global, begin: usize, sizes: Sizes) -> Result<Tiers, FileProblem>
-        requires fits { begin + byte_count sizes ≤ disk_len self.now }
+    fn read_medium(
+        &mut self,
+        alloc: Global,
+        begin: usize,
+        sizes: Sizes,
+    ) -> Result<Tiers, FileProblem>
+        requires fits { begin + byte_count sizes ≤ disk_len self.old }
+        requires read { is_blank self.old ≡ false }
         ensures fast { IfOk result (λ tiers. length (row tiers Fast) ≡ sizes.fast) }
         ensures block { IfOk result (λ tiers. length (row tiers Block) ≡ sizes.block) }
         ensures slow { IfOk result (λ tiers. length (row tiers Slow) ≡ sizes.slow) }
+        ensures told { IfOk result (λ tiers. part_told (disk_told self.new) begin (byte_count sizes) ≡ known (content_bytes (row tiers))) }
+        ensures len { disk_len self.new ≡ disk_len self.old }
+        ensures blank { is_blank self.new ≡ is_blank self.old }
     {
-        let tiers = read_tiers(alloc, self.shared.file(), begin, sizes)?;
-        write_tiers(self.shared.file(), begin, &tiers)?;
+        let tiers = read_tiers(alloc, &mut self.range, begin, sizes)?;
+        write_tiers(&mut self.range, begin, &tiers)?;
         Ok(tiers)
     }
 
@@ -311,7 +352,8 @@ pub(crate) fn open_disk<R: Files<File = File>>(
     alloc: Global,
     path: &str,
 ) -> Result<DiskFile, FileProblem>
-    ensures { IfOk result (λ disk. disk.is_blank ≡ false) }
+    ensures bytes { IfOk result (λ disk. disk.is_blank ≡ false) }
+    ensures told { IfOk result (λ disk. range_told disk.range ≡ unknown disk.len) }
 {
     let file = open_locked(files, path)?;
     let len = file.metadata()?.len();
@@ -319,9 +361,10 @@ pub(crate) fn open_disk<R: Files<File = File>>(
         return Err(FileProblem::TooLarge);
     }
     file.sync_all()?;
+    let len = len as usize;
     Ok(DiskFile {
-        shared: share_file(alloc, file)?,
-        len: len as usize,
+        range: FileRange::whole(share_file(alloc, file)?, len),
+        len,
         is_blank: false,
     })
 }
@@ -335,6 +378,7 @@ pub(crate) fn create_disk<R: Files<File = File>>(
 ) -> Result<DiskFile, FileProblem>
     ensures len { IfOk result (λ disk. disk.len ≡ len) }
     ensures blank { IfOk result (λ disk. disk.is_blank ≡ true) }
+    ensures zeros { IfOk result (λ disk. range_told disk.range ≡ known (replicate len 0)) }
 {
     if MAX_BYTES < len {
         return Err(FileProblem::TooLarge);
@@ -371,10 +415,12 @@ fn blank_disk<R: Files<File = File>>(
     requires { len < 2 ^ 63 }
     ensures len { IfOk result (λ disk. disk.len ≡ len) }
     ensures blank { IfOk result (λ disk. disk.is_blank ≡ true) }
+    ensures zeros { IfOk result (λ disk. range_told disk.range ≡ known (replicate len 0)) }
 {
-    match fill_file(files, alloc, path, shared.file(), len) {
+    let mut range = FileRange::whole(shared, len);
+    match fill_file(files, alloc, path, &mut range, len) {
         Ok(()) => Ok(DiskFile {
-            shared,
+            range,
             len,
             is_blank: true,
         }),

@@ -1,78 +1,108 @@
-// The bytes of a file: zeros are written to it, and tiers are read from it.
-ghost use Rattle.std.specs.Prelude.{◌≡◌, ◌<◌, ◌+◌, ◌^◌, length, IfOk};
+// The bytes of a file: zeros are written to it, and tiers are read from it and written back.
+ghost use Rattle.std.specs.Prelude.{◌≡◌, ◌≤◌, ◌<◌, ◌+◌, ◌*◌, length, replicate, IfOk, OnOk};
 ghost use Rattle.tier_device.specs.declared.media.Tier.TheVariants.{Fast, Block, Slow};
 ghost use Rattle.tier_device.specs.Rows.{row};
+ghost use Rattle.host_media.specs.FileBytes.{known, unknown, with_told};
+ghost use Rattle.host_media.specs.FileRange.{range_begin, range_told};
+ghost use Rattle.host_media.specs.Images.{content_bytes};
 ghost use Rattle.host_media.specs.Place.{total};
+ghost use Rattle.host_media.specs.Sizes.{byte_count};
 
 use crate::error::FileProblem;
+use crate::file_range::FileRange;
 use crate::locked_file::sync_folder;
 use crate::sizes::Sizes;
 use std::alloc::Global;
 use std::fs::{File, Files};
-use std::os::unix::fs::FileExt;
+use std::io;
 use tier_device::{Tier, Tiers};
 
 // How many zeros are written at once.
 const CHUNK: usize = 65536;
 
-/// Writes `len` zeros to a file, and has the system keep them and the file's name.
+/// Writes `len` zeros to a file, all its bytes, and has the system keep them and the file's name.
 pub(crate) fn fill_file<R: Files<File = File>>(
     files: &R,
     alloc: Global,
     path: &str,
-    file: &File,
+    file: &mut FileRange,
     len: usize,
-) -> Result<(), FileProblem> {
-    let zeros = vec![in alloc; 0u8; CHUNK]?;
-    for k in 0..len / CHUNK {
-        file.write_all_at(&zeros, (k * CHUNK) as u64)?;
-    }
-    let rest = len % CHUNK;
-    file.write_all_at(&zeros[..rest], (len - rest) as u64)?;
+) -> Result<(), FileProblem>
+    requires { range_told file.old ≡ unknown len }
+    ensures begin { range_begin file.new ≡ range_begin file.old }
+    ensures zeros { OnOk result (range_told file.new ≡ known (replicate len 0)) }
+{
+    let chunk = CHUNK;
+    let zeros = vec![in alloc; 0u8; chunk]?;
+    write_zeros(file, len, &zeros)?;
     file.sync_all()?;
     sync_folder(files, path)?;
     Ok(())
 }
 
+// Writes `len` zeros to a file, so many at once.
+fn write_zeros(file: &mut FileRange, len: usize, zeros: &[u8]) -> io::Result<()>
+    requires told { range_told file.old ≡ unknown len }
+    requires zeros { zeros.now ≡ replicate (length zeros.now) 0 }
+    requires some { 0 < length zeros.now }
+    ensures begin { range_begin file.new ≡ range_begin file.old }
+    ensures written { OnOk result (range_told file.new ≡ known (replicate len 0)) }
+{
+    let chunk = zeros.len();
+    for k in 0..len / chunk {
+        file.write(k * chunk, zeros)?;
+    }
+    let rest = len % chunk;
+    file.write(len - rest, &zeros[..rest])
+}
+
 /// The tiers whose bytes begin at a place of a file, the fast one first.
 pub(crate) fn read_tiers(
     alloc: Global,
-    file: &File,
-    begin: usize,
+    file: &mut FileRange,
+    at: usize,
     sizes: Sizes,
 ) -> Result<Tiers, FileProblem>
-    requires { begin + sizes.fast + sizes.block + sizes.slow < 2 ^ 63 }
+    requires { at + byte_count sizes ≤ length (range_told file.old) }
     ensures fast { IfOk result (λ tiers. length (row tiers Fast) ≡ sizes.fast) }
     ensures block { IfOk result (λ tiers. length (row tiers Block) ≡ sizes.block) }
     ensures slow { IfOk result (λ tiers. length (row tiers Slow) ≡ sizes.slow) }
+    ensures begin { range_begin file.new ≡ range_begin file.old }
+    ensures read { IfOk result (λ tiers. range_told file.new ≡ with_told (range_told file.old) at (known (content_bytes (row tiers)))) }
 {
-    let block_at = begin + sizes.fast;
-    let slow_at = begin + sizes.fast + sizes.block;
-    let fast = read_tier(alloc, file, begin, sizes.fast)?;
+    let block_at = at + sizes.fast;
+    let slow_at = at + sizes.fast + sizes.block;
+    let fast = read_tier(alloc, file, at, sizes.fast)?;
     let block = read_tier(alloc, file, block_at, sizes.block)?;
     let slow = read_tier(alloc, file, slow_at, sizes.slow)?;
     Ok(Tiers::new(fast, block, slow))
 }
 
 /// Writes tiers to a file from a place on, the fast one first.
-pub(crate) fn write_tiers(file: &File, begin: usize, tiers: &Tiers) -> Result<(), FileProblem>
-    requires { begin + total tiers.now < 2 ^ 63 }
+pub(crate) fn write_tiers(file: &mut FileRange, at: usize, tiers: &Tiers) -> io::Result<()>
+    requires { at + total tiers.now ≤ length (range_told file.old) }
+    ensures begin { range_begin file.new ≡ range_begin file.old }
+    ensures written { OnOk result (range_told file.new ≡ with_told (range_told file.old) at (known (content_bytes (row tiers.now)))) }
 {
     let fast = tiers.bytes(Tier::Fast);
     let block = tiers.bytes(Tier::Block);
-    file.write_all_at(fast, begin as u64)?;
-    file.write_all_at(block, (begin + fast.len()) as u64)?;
-    file.write_all_at(
-        tiers.bytes(Tier::Slow),
-        (begin + fast.len() + block.len()) as u64,
-    )?;
-    Ok(())
+    file.write(at, fast)?;
+    file.write(at + fast.len(), block)?;
+    file.write(at + fast.len() + block.len(), tiers.bytes(Tier::Slow))
 }
 
-fn read_tier(alloc: Global, file: &File, at: usize, len: usize) -> Result<Vec<u8>, FileProblem>
-    ensures { IfOk result (λ bytes. length bytes.items ≡ len) }
+fn read_tier(
+    alloc: Global,
+    file: &mut FileRange,
+    at: usize,
+    len: usize,
+) -> Result<Vec<u8>, FileProblem>
+    requires { at + len ≤ length (range_told file.old) }
+    ensures len { IfOk result (λ bytes. length bytes.items ≡ len) }
+    ensures begin { range_begin file.new ≡ range_begin file.old }
+    ensures read { IfOk result (λ bytes. range_told file.new ≡ with_told (range_told file.old) at (known bytes.items)) }
 {
     let mut bytes = vec![in alloc; 0u8; len]?;
-    file.read_exact_at(&mut bytes, at as u64)?;
+    file.read(at, &mut bytes)?;
     Ok(bytes)
 }

@@ -1,7 +1,9 @@
 // A file that holds a world's image.
-ghost use Rattle.std.specs.Prelude.{option_map, IfErr, IfOk};
+ghost use Rattle.std.specs.Prelude.{◌≡◌, option_map, IfErr, IfOk, OnOk};
+ghost use Rattle.host_media.specs.DiskFile.{disk_told};
+ghost use Rattle.host_media.specs.FileBytes.{known};
 ghost use Rattle.world_files.specs.FileErrors.{IsFileOrMemory};
-ghost use Rattle.world_files.specs.ImageFiles.{MayHold};
+ghost use Rattle.world_files.specs.ImageFiles.{IsWritten, MayHold};
 
 use crate::draft::draft_path;
 use crate::error::WorldFileError;
@@ -56,12 +58,11 @@ impl ImageFile {
         alloc: Global,
         path: &str,
         bytes: &[u8],
-    ) -> Result<(), WorldFileError> {
+    ) -> Result<(), WorldFileError>
+        ensures written { OnOk result (IsWritten bytes.now) }
+    {
         let draft = draft_path(alloc, path)?;
-        DiskFile::remove_unused(files, draft.as_str())?;
-        let mut file = DiskFile::create(files, alloc, draft.as_str(), bytes.len())?;
-        file.write(0, bytes)?;
-        file.sync()?;
+        let _file = write_draft(files, alloc, draft.as_str(), bytes)?;
         if self.held.is_some() {
             DiskFile::replace(files, draft.as_str(), path)?;
         } else {
@@ -69,4 +70,20 @@ impl ImageFile {
         }
         Ok(())
     }
+}
+
+// Makes a file of these bytes, kept on its device, in the place of one that a process which ended left unfinished.
+fn write_draft<R: Files<File = File>>(
+    files: &R,
+    alloc: Global,
+    draft: &str,
+    bytes: &[u8],
+) -> Result<DiskFile, WorldFileError>
+    ensures whole { IfOk result (λ file. disk_told file ≡ known bytes.now) }
+{
+    DiskFile::remove_unused(files, draft)?;
+    let mut file = DiskFile::create(files, alloc, draft, bytes.len())?;
+    file.write(0, bytes)?;
+    file.sync()?;
+    Ok(file)
 }
