@@ -1,17 +1,17 @@
 -- Tiers one behind the other, and what is known of them.
-use Rattle.std.proofs.Common.{◌≡◌, ◌≤◌, ◌+◌, ◌∙◌, ℕ, List, [], ◌++◌, length, not, true, false, refl, sym, ap, arith}
-use Rattle.std.specs.Prelude.{◌<◌, ◌^◌, Bool, Option, Some, Result, Ok, Err, OnOk, is_ok, replicate}
-use Rattle.std.proofs.lemmas.List.{append_assoc, append-nil, length-append, length-map, replicate-append-replicate}
+use Rattle.std.proofs.Common.{◌≡◌, ◌≤◌, ◌+◌, ◌-◌, ◌∙◌, ℕ, List, [], ◌++◌, length, not, true, false, refl, sym, ap, arith}
+use Rattle.std.specs.Prelude.{◌<◌, ◌^◌, Bool, Option, Some, None, Result, Ok, Err, OnOk, is_ok, replicate}
+use Rattle.std.proofs.lemmas.List.{append_assoc, append-nil, length-append, length-map, map-append, length-replicate, replicate-append-replicate}
 use Rattle.tier_device.specs.declared.media.Tier.{Tier}
 use Rattle.tier_device.specs.declared.media.Tier.TheVariants.{Fast, Block, Slow}
 use Rattle.tier_device.specs.Media.{overwritten, Puts}
 use Rattle.tier_device.specs.Rows.{Rows, row}
 use Rattle.host_media.specs.declared.sizes.Sizes.{Sizes}
-use Rattle.host_media.specs.FileBytes.{Told, known, part_told, with_told}
+use Rattle.host_media.specs.FileBytes.{Told, known, part_told, unknown, with_told}
 use Rattle.host_media.specs.Images.{content_bytes}
 use Rattle.host_media.specs.Place.{begin_of, total}
 use Rattle.host_media.specs.Sizes.{byte_count}
-use Rattle.host_media.proofs.ToldBytes.{map-put, map-replicate, part-put, part-replicate, put-between}
+use Rattle.host_media.proofs.ToldBytes.{map-put, map-replicate, length-put, part-put, part-replicate, put-again, put-behind, put-between, put-equal}
 
 -- as many bytes are known as there are
 pub length-known : (bytes : List ℕ) → length (known bytes) ≡ length bytes
@@ -112,3 +112,56 @@ zero-content rows sizes fast block slow =
     ∙ ap (λ xs. replicate sizes.fast 0 ++ replicate sizes.block 0 ++ xs) slow
     ∙ ap (λ xs. xs ++ replicate sizes.slow 0) (replicate-append-replicate sizes.fast sizes.block 0)
     ∙ replicate-append-replicate (sizes.fast + sizes.block) sizes.slow 0
+
+-- more zeros, behind those that were written
+pub zeros-more : (told : Told) (at len n : ℕ) (zeros : List ℕ) → told ≡ replicate at (Some 0) ++ unknown (len - at) → zeros ≡ replicate n 0 → n ≤ len - at
+    → with_told told at (known zeros) ≡ replicate (at + n) (Some 0) ++ unknown (len - (at + n))
+zeros-more told at len n zeros was are fits =
+    let fewer : len - at - n ≡ len - (at + n) = omega arith in
+    ap (λ (t : Told). with_told t at (known zeros)) was
+    ∙ ap (λ (z : Told). with_told (replicate at (Some 0) ++ unknown (len - at)) at z) (ap known are ∙ map-replicate Some n 0)
+    ∙ put-equal at n (len - at) (Some 0) None fits
+    ∙ ap (λ k. replicate (at + n) (Some 0) ++ unknown k) fewer
+
+-- all are written
+pub zeros-all : (len n : ℕ) → n ≡ len → replicate n (Some 0) ++ unknown (len - n) ≡ known (replicate len 0)
+zeros-all len n is =
+    let none : len - len ≡ 0 = omega arith in
+    ap (λ k. replicate k (Some 0) ++ unknown (len - k)) is
+    ∙ ap (λ k. replicate len (Some 0) ++ unknown k) none
+    ∙ append-nil (replicate len (Some 0))
+    ∙ sym (map-replicate Some len 0)
+
+-- bytes that are told behind others
+told-behind : (t0 t1 t2 : Told) (at : ℕ) (a b : List ℕ) (place : ℕ) → at ≤ length t0 → t1 ≡ with_told t0 at (known a) → t2 ≡ with_told t1 place (known b) → place ≡ at + length a → t2 ≡ with_told t0 at (known (a ++ b))
+told-behind t0 t1 t2 at a b place fits first second is =
+    second
+    ∙ ap (λ (t : Told). with_told t place (known b)) first
+    ∙ ap (λ n. with_told (with_told t0 at (known a)) n (known b)) (is ∙ ap (λ n. at + n) (sym (length-known a)))
+    ∙ put-behind t0 at (known a) (known b) fits
+    ∙ ap (with_told t0 at) (sym (map-append Some a b))
+
+-- three tiers, each told behind the one before
+pub tiers-told : (t0 t1 t2 t3 : Told) (at : ℕ) (f b s : List ℕ) (block_at slow_at : ℕ) → at ≤ length t0 → t1 ≡ with_told t0 at (known f) → t2 ≡ with_told t1 block_at (known b) → t3 ≡ with_told t2 slow_at (known s)
+    → block_at ≡ at + length f → slow_at ≡ at + length f + length b → t3 ≡ with_told t0 at (known (f ++ b ++ s))
+tiers-told t0 t1 t2 t3 at f b s block_at slow_at fits first second third block slow =
+    let both = length-append f b in
+    let behind : slow_at ≡ at + length (f ++ b) = omega (arith, slow, both) in
+    told-behind t0 t2 t3 at (f ++ b) s slow_at fits (told-behind t0 t1 t2 at f b block_at fits first second block) third behind
+
+pub content-of : (rows : Rows) (f b s : List ℕ) → f ≡ rows.fast → b ≡ rows.block → s ≡ rows.slow → f ++ b ++ s ≡ content_bytes (row rows)
+content-of rows f b s fast block slow =
+    ap (λ xs. xs ++ b ++ s) fast ∙ ap (λ xs. rows.fast ++ xs ++ s) block ∙ ap (λ xs. rows.fast ++ rows.block ++ xs) slow
+
+-- a call that tells more of some places leaves as many
+pub told-length : (t0 t1 : Told) (at : ℕ) (bytes : List ℕ) → at + length bytes ≤ length t0 → t1 ≡ with_told t0 at (known bytes) → length t1 ≡ length t0
+told-length t0 t1 at bytes fits is = let long = length-known bytes in ap length is ∙ length-put t0 at (known bytes) (omega (arith, fits, long))
+
+pub torn-length : (t0 t1 : Told) (at n : ℕ) → at + n ≤ length t0 → t1 ≡ with_told t0 at (unknown n) → length t1 ≡ length t0
+torn-length t0 t1 at n fits is = let none : Option ℕ = None in let long = length-replicate n none in ap length is ∙ length-put t0 at (unknown n) (omega (arith, fits, long))
+
+-- what was read, and then written back, is known of its part
+pub told-back : (t0 t1 t2 : Told) (at n : ℕ) (bytes : List ℕ) → at + n ≤ length t0 → length bytes ≡ n → t1 ≡ with_told t0 at (known bytes) → t2 ≡ with_told t1 at (known bytes) → part_told t2 at n ≡ known bytes
+told-back t0 t1 t2 at n bytes fits long first second =
+    ap (λ (t : Told). part_told t at n) (second ∙ ap (λ (t : Told). with_told t at (known bytes)) first ∙ put-again t0 at (known bytes) (known bytes) (omega (arith, fits)) refl)
+    ∙ part-of-put t0 at n bytes (omega (arith, fits)) long

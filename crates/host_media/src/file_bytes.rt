@@ -32,28 +32,43 @@ pub(crate) fn fill_file<R: Files<File = File>>(
     ensures begin { range_begin file.new ≡ range_begin file.old }
     ensures zeros { OnOk result (range_told file.new ≡ known (replicate len 0)) }
 {
-    let chunk = CHUNK;
-    let zeros = vec![in alloc; 0u8; chunk]?;
-    write_zeros(file, len, &zeros)?;
+    write_zeros(alloc, file, len, CHUNK)?;
     file.sync_all()?;
     sync_folder(files, path)?;
     Ok(())
 }
 
-// Writes `len` zeros to a file, so many at once.
-fn write_zeros(file: &mut FileRange, len: usize, zeros: &[u8]) -> io::Result<()>
+// Writes `len` zeros to a file, `chunk` at once.
+fn write_zeros(
+    alloc: Global,
+    file: &mut FileRange,
+    len: usize,
+    chunk: usize,
+) -> Result<(), FileProblem>
+    requires told { range_told file.old ≡ unknown len }
+    requires some { 0 < chunk }
+    ensures begin { range_begin file.new ≡ range_begin file.old }
+    ensures zeros { OnOk result (range_told file.new ≡ known (replicate len 0)) }
+{
+    let zeros = vec![in alloc; 0u8; chunk]?;
+    write_pieces(file, len, &zeros)?;
+    Ok(())
+}
+
+// Writes `len` zeros to a file, as many at once as there are here.
+fn write_pieces(file: &mut FileRange, len: usize, zeros: &[u8]) -> io::Result<()>
     requires told { range_told file.old ≡ unknown len }
     requires zeros { zeros.now ≡ replicate (length zeros.now) 0 }
     requires some { 0 < length zeros.now }
     ensures begin { range_begin file.new ≡ range_begin file.old }
     ensures written { OnOk result (range_told file.new ≡ known (replicate len 0)) }
 {
-    let chunk = zeros.len();
-    for k in 0..len / chunk {
-        file.write(k * chunk, zeros)?;
+    let mut at = 0usize;
+    'pieces: while zeros.len() < len - at {
+        file.write(at, zeros)?;
+        at += zeros.len();
     }
-    let rest = len % chunk;
-    file.write(len - rest, &zeros[..rest])
+    file.write(at, &zeros[..len - at])
 }
 
 /// The tiers whose bytes begin at a place of a file, the fast one first.
@@ -68,6 +83,7 @@ pub(crate) fn read_tiers(
     ensures block { IfOk result (λ tiers. length (row tiers Block) ≡ sizes.block) }
     ensures slow { IfOk result (λ tiers. length (row tiers Slow) ≡ sizes.slow) }
     ensures begin { range_begin file.new ≡ range_begin file.old }
+    ensures long { length (range_told file.new) ≡ length (range_told file.old) }
     ensures read { IfOk result (λ tiers. range_told file.new ≡ with_told (range_told file.old) at (known (content_bytes (row tiers)))) }
 {
     let block_at = at + sizes.fast;
@@ -82,6 +98,7 @@ pub(crate) fn read_tiers(
 pub(crate) fn write_tiers(file: &mut FileRange, at: usize, tiers: &Tiers) -> io::Result<()>
     requires { at + total tiers.now ≤ length (range_told file.old) }
     ensures begin { range_begin file.new ≡ range_begin file.old }
+    ensures long { length (range_told file.new) ≡ length (range_told file.old) }
     ensures written { OnOk result (range_told file.new ≡ with_told (range_told file.old) at (known (content_bytes (row tiers.now)))) }
 {
     let fast = tiers.bytes(Tier::Fast);
@@ -100,6 +117,7 @@ fn read_tier(
     requires { at + len ≤ length (range_told file.old) }
     ensures len { IfOk result (λ bytes. length bytes.items ≡ len) }
     ensures begin { range_begin file.new ≡ range_begin file.old }
+    ensures long { length (range_told file.new) ≡ length (range_told file.old) }
     ensures read { IfOk result (λ bytes. range_told file.new ≡ with_told (range_told file.old) at (known bytes.items)) }
 {
     let mut bytes = vec![in alloc; 0u8; len]?;

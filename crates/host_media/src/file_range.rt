@@ -57,6 +57,7 @@ impl FileRange {
     pub(crate) fn read(&mut self, at: usize, out: &mut [u8]) -> io::Result<()>
         requires { at + length out.old ≤ length (range_told self.old) }
         ensures begin { range_begin self.new ≡ range_begin self.old }
+        ensures long { length (range_told self.new) ≡ length (range_told self.old) }
         ensures read { OnOk result (range_told self.new ≡ with_told (range_told self.old) at (known out.new)) }
         ensures failed { OnErr result (range_told self.new ≡ range_told self.old) }
     {
@@ -71,6 +72,7 @@ impl FileRange {
     pub(crate) fn write(&mut self, at: usize, bytes: &[u8]) -> io::Result<()>
         requires { at + length bytes.now ≤ length (range_told self.old) }
         ensures begin { range_begin self.new ≡ range_begin self.old }
+        ensures long { length (range_told self.new) ≡ length (range_told self.old) }
         ensures written { OnOk result (range_told self.new ≡ with_told (range_told self.old) at (known bytes.now)) }
         ensures torn { OnErr result (range_told self.new ≡ with_told (range_told self.old) at (unknown (length bytes.now))) }
     {

@@ -1,13 +1,14 @@
 // A file that holds a world's image.
-ghost use Rattle.std.specs.Prelude.{◌≡◌, option_map, IfErr, IfOk, OnOk};
-ghost use Rattle.host_media.specs.DiskFile.{disk_told};
+ghost use Rattle.std.specs.Prelude.{◌≡◌, length, option_map, IfErr, IfOk, OnOk};
+ghost use Rattle.host_media.specs.DiskFile.{disk_len, disk_told};
 ghost use Rattle.host_media.specs.FileBytes.{known};
+ghost use Rattle.host_media.specs.FileRange.{range_begin, range_told};
 ghost use Rattle.world_files.specs.FileErrors.{IsFileOrMemory};
 ghost use Rattle.world_files.specs.ImageFiles.{IsWritten, MayHold};
 
 use crate::draft::draft_path;
 use crate::error::WorldFileError;
-use host_media::DiskFile;
+use host_media::{DiskFile, FileRange};
 use std::alloc::Global;
 use std::fs::{self, File, Files};
 
@@ -42,8 +43,7 @@ impl ImageFile {
         let Some(disk) = &self.held else {
             return Ok(None);
         };
-        let mut bytes = vec![in alloc; 0u8; disk.len()]?;
-        disk.read(0, &mut bytes)?;
+        let (bytes, _range) = read_whole(alloc, disk)?;
         Ok(Some(bytes))
     }
 
@@ -70,6 +70,18 @@ impl ImageFile {
         }
         Ok(())
     }
+}
+
+// The bytes of a file, as a read from its begin gives them, and the range that was read.
+fn read_whole(alloc: Global, disk: &DiskFile) -> Result<(Vec<u8>, FileRange), WorldFileError>
+    ensures len { IfOk result (λ read. length read.0.items ≡ disk_len disk.now) }
+    ensures begin { IfOk result (λ read. range_begin read.1 ≡ 0) }
+    ensures bytes { IfOk result (λ read. range_told read.1 ≡ known read.0.items) }
+    ensures only { IfErr result IsFileOrMemory }
+{
+    let mut bytes = vec![in alloc; 0u8; disk.len()]?;
+    let range = disk.read(0, &mut bytes)?;
+    Ok((bytes, range))
 }
 
 // Makes a file of these bytes, kept on its device, in the place of one that a process which ended left unfinished.
