@@ -1,7 +1,7 @@
 -- Tiers one behind the other, and what is known of them.
 use Rattle.std.proofs.Common.{◌≡◌, ◌≤◌, ◌+◌, ◌-◌, ◌∙◌, ℕ, List, [], ◌++◌, length, not, true, false, refl, sym, ap, arith}
 use Rattle.std.specs.Prelude.{◌<◌, ◌^◌, Bool, Option, Some, None, Result, Ok, Err, OnOk, is_ok, replicate}
-use Rattle.std.proofs.lemmas.List.{append_assoc, append-nil, length-append, length-map, map-append, length-replicate, replicate-append-replicate}
+use Rattle.std.proofs.lemmas.List.{append_assoc, append-nil, drop_all, length-append, length-map, map-append, length-replicate, replicate-append-replicate}
 use Rattle.tier_device.specs.declared.media.Tier.{Tier}
 use Rattle.tier_device.specs.declared.media.Tier.TheVariants.{Fast, Block, Slow}
 use Rattle.tier_device.specs.Media.{overwritten, Puts}
@@ -165,3 +165,10 @@ pub told-back : (t0 t1 t2 : Told) (at n : ℕ) (bytes : List ℕ) → at + n ≤
 told-back t0 t1 t2 at n bytes fits long first second =
     ap (λ (t : Told). part_told t at n) (second ∙ ap (λ (t : Told). with_told t at (known bytes)) first ∙ put-again t0 at (known bytes) (known bytes) (omega (arith, fits)) refl)
     ∙ part-of-put t0 at n bytes (omega (arith, fits)) long
+
+-- bytes that are written over all that was there
+pub told-whole : (old bytes : List ℕ) → length old ≡ length bytes → with_told (known old) 0 (known bytes) ≡ known bytes
+told-whole old bytes same =
+    let long_old = length-known old in
+    let long = length-known bytes in
+    ap (λ (xs : Told). known bytes ++ xs) (drop_all (0 + length (known bytes)) (known old) (omega (arith, long_old, long, same))) ∙ append-nil (known bytes)

@@ -11,7 +11,7 @@ loop-one-preserved c =
     let made = c.in_ok-medium.ensures in
     record {
       parted =
-          part_next (is_blank c.args.self.old) c.args.sizes.now loop.one-index loop.begin loop.media.items loop.invariant.parted d c.loop-one-test.true c.in_ok-medium.field-0
+          part_next (is_blank c.args.self.now) c.args.sizes.now loop.one-index loop.begin loop.media.items loop.invariant.parted d c.loop-one-test.true c.in_ok-medium.field-0
           made.sizes made.place made.opened (λ blank. made.zeros (loop.invariant.blank ∙ blank)) c.push.new.media.items c.in_ok-push.ensures;
       blank = made.blank ∙ loop.invariant.blank;
       long = made.len ∙ loop.invariant.long;

@@ -12,5 +12,5 @@ returns-clause-told c =
     let tiers = c.in_ok-tiers.tiers in
     let long = length-content tiers in
     let made = c.in_ok-tiers.ensures in
-    told-back (disk_told c.args.self.now) (range_told c.read_tiers-tiers.new.file) (range_told c.write_tiers.new.file) c.args.begin (byte_count c.args.sizes) (content_bytes (row tiers))
+    told-back (disk_told c.args.self.now) (range_told c.read_tiers.new.file) (range_told c.write_tiers.new.file) c.args.begin (byte_count c.args.sizes) (content_bytes (row tiers))
     (omega (arith, c.requires.fits, c.args.self.now.long)) (omega (arith, long, made.fast, made.block, made.slow)) made.read c.in_ok-write_tiers.ensures.written
