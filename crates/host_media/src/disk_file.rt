@@ -52,7 +52,7 @@ impl DiskFile {
         path: &'a str,
     ) -> Result<DiskFile, FileError<'a>>
         ensures bytes { IfOk result (λ disk. is_blank disk ≡ false) }
-        ensures told { IfOk result (λ disk. disk_told disk ≡ unknown (disk_len disk)) }
+        ensures nothing { IfOk result (λ disk. disk_told disk ≡ unknown (disk_len disk)) }
     {
         match open_disk(files, alloc, path) {
             Ok(disk) => Ok(disk),
@@ -240,7 +240,7 @@ impl DiskFile {
         ensures block { IfOk result (λ tiers. length (row tiers Block) ≡ sizes.block) }
         ensures slow { IfOk result (λ tiers. length (row tiers Slow) ≡ sizes.slow) }
         ensures zeros { is_blank self.old ≡ true → IfOk result (λ tiers. (t : Tier) → row tiers t ≡ replicate (length (row tiers t)) 0) }
-        ensures told { IfOk result (λ tiers. part_told (disk_told self.new) begin (byte_count sizes) ≡ known (content_bytes (row tiers))) }
+        ensures stands { IfOk result (λ tiers. part_told (disk_told self.new) begin (byte_count sizes) ≡ known (content_bytes (row tiers))) }
         ensures len { disk_len self.new ≡ disk_len self.old }
         ensures blank { is_blank self.new ≡ is_blank self.old }
     {
@@ -262,7 +262,7 @@ impl DiskFile {
         ensures fast { IfOk result (λ tiers. length (row tiers Fast) ≡ sizes.fast) }
         ensures block { IfOk result (λ tiers. length (row tiers Block) ≡ sizes.block) }
         ensures slow { IfOk result (λ tiers. length (row tiers Slow) ≡ sizes.slow) }
-        ensures told { IfOk result (λ tiers. part_told (disk_told self.new) begin (byte_count sizes) ≡ known (content_bytes (row tiers))) }
+        ensures stands { IfOk result (λ tiers. part_told (disk_told self.new) begin (byte_count sizes) ≡ known (content_bytes (row tiers))) }
         ensures len { disk_len self.new ≡ disk_len self.old }
         ensures blank { is_blank self.new ≡ is_blank self.old }
     {
@@ -353,7 +353,7 @@ pub(crate) fn open_disk<R: Files<File = File>>(
     path: &str,
 ) -> Result<DiskFile, FileProblem>
     ensures bytes { IfOk result (λ disk. disk.is_blank ≡ false) }
-    ensures told { IfOk result (λ disk. range_told disk.range ≡ unknown disk.len) }
+    ensures nothing { IfOk result (λ disk. range_told disk.range ≡ unknown disk.len) }
 {
     let file = open_locked(files, path)?;
     let len = file.metadata()?.len();
@@ -363,7 +363,7 @@ pub(crate) fn open_disk<R: Files<File = File>>(
     file.sync_all()?;
     let len = len as usize;
     Ok(DiskFile {
-        range: FileRange::whole(share_file(alloc, file)?, len),
+        range: FileRange::of_file(share_file(alloc, file)?, len),
         len,
         is_blank: false,
     })
@@ -417,7 +417,7 @@ fn blank_disk<R: Files<File = File>>(
     ensures blank { IfOk result (λ disk. disk.is_blank ≡ true) }
     ensures zeros { IfOk result (λ disk. range_told disk.range ≡ known (replicate len 0)) }
 {
-    let mut range = FileRange::whole(shared, len);
+    let mut range = FileRange::of_file(shared, len);
     match fill_file(files, alloc, path, &mut range, len) {
         Ok(()) => Ok(DiskFile {
             range,

@@ -45,7 +45,7 @@ fn write_zeros(
     len: usize,
     chunk: usize,
 ) -> Result<(), FileProblem>
-    requires told { range_told file.old ≡ unknown len }
+    requires nothing { range_told file.old ≡ unknown len }
     requires some { 0 < chunk }
     ensures begin { range_begin file.new ≡ range_begin file.old }
     ensures zeros { OnOk result (range_told file.new ≡ known (replicate len 0)) }
@@ -57,7 +57,7 @@ fn write_zeros(
 
 // Writes `len` zeros to a file, as many at once as there are here.
 fn write_pieces(file: &mut FileRange, len: usize, zeros: &[u8]) -> io::Result<()>
-    requires told { range_told file.old ≡ unknown len }
+    requires nothing { range_told file.old ≡ unknown len }
     requires zeros { zeros.now ≡ replicate (length zeros.now) 0 }
     requires some { 0 < length zeros.now }
     ensures begin { range_begin file.new ≡ range_begin file.old }

@@ -1,4 +1,5 @@
-// A range of an open file, and what is known of its bytes.
+// A range of an open file, and what is known of its bytes. No proof can know what a file holds that is opened: so of `read` and `write` it is
+// believed that the system did at that place just what they tell.
 ghost use Rattle.std.specs.Prelude.{◌≡◌, ◌≤◌, ◌<◌, ◌+◌, ◌^◌, length, OnErr, OnOk, IfOk};
 ghost use Rattle.host_media.specs.FileBytes.{known, unknown, with_told, part_told};
 
@@ -23,10 +24,10 @@ impl FileRange {
     ghost use Rattle.host_media.specs.FileRange.{range_begin, range_told};
 
     /// All `len` bytes of an open file, of which none is known.
-    pub(crate) fn whole(file: Arc<SharedFile>, len: usize) -> FileRange
+    pub(crate) fn of_file(file: Arc<SharedFile>, len: usize) -> FileRange
         requires { len < 2 ^ 63 }
         ensures begin { range_begin result ≡ 0 }
-        ensures told { range_told result ≡ unknown len }
+        ensures nothing { range_told result ≡ unknown len }
     {
         let sizes = Sizes {
             fast: len,
@@ -44,7 +45,7 @@ impl FileRange {
     pub(crate) fn part(&self, at: usize, len: usize) -> Result<FileRange, AllocError>
         requires { at + len ≤ length (range_told self.now) }
         ensures begin { IfOk result (λ part. range_begin part ≡ range_begin self.now + at) }
-        ensures told { IfOk result (λ part. range_told part ≡ part_told (range_told self.now) at len) }
+        ensures bytes { IfOk result (λ part. range_told part ≡ part_told (range_told self.now) at len) }
     {
         Ok(FileRange {
             file: Arc::try_clone(&self.file)?,

@@ -56,7 +56,7 @@ impl Host {
         answer
     }
 
-    /// Has the system keep all that it was given.
+    /// Has the system keep all that it was given. That it did, where it succeeded, is believed.
     pub(crate) fn sync(&mut self) -> io::Result<()>
         requires works { self.old.failed ≡ false }
         ensures range { self.new.range ≡ self.old.range }

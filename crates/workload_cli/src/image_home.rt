@@ -15,7 +15,7 @@ pub trait ImageHome {
         ensures { OnOk result (keeps self.now bytes.now) };
 }
 
-/// An image file, and its path. No clause says that it holds the bytes then, since the contracts of files say nothing of what they hold.
+/// An image file, and its path. No clause says that it holds the bytes then: `ImageFile::replace` says that they were written, and no contract says what a name leads to.
 #[derive(Drop)]
 pub struct FileHome<'a> {
     pub rt: &'a HostRuntime,

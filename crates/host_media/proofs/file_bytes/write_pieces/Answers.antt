@@ -10,7 +10,7 @@ use Rattle.host_media.proofs.file_bytes.write_pieces.Goals as goal
 pub pieces-init : goal.pieces-init
 pieces-init c =
     let all : c.args.len ≡ c.args.len - 0 = omega arith in
-    record { within = omega arith; told = c.requires.told ∙ ap unknown all; begin = refl }
+    record { within = omega arith; told = c.requires.nothing ∙ ap unknown all; begin = refl }
 
 pub pieces-preserved : goal.pieces-preserved
 pieces-preserved c =

@@ -5,8 +5,8 @@ use Rattle.host_media.specs.Sizes.{byte_count}
 use Rattle.host_media.proofs.ToldTiers.{part-of-zeros, zero-content}
 use Rattle.host_media.proofs.disk_file.DiskFile.make_tiers.Goals as goal
 
-pub returns-clause-told : goal.returns-clause-told
-returns-clause-told c =
+pub returns-clause-stands : goal.returns-clause-stands
+returns-clause-stands c =
     let made = c.in_ok-zeros.ensures in
     let n = byte_count c.args.sizes in
     ap (λ (told : Told). part_told told c.args.begin n) (c.args.self.now.blank c.if-not-self.false)

@@ -7,8 +7,8 @@ use Rattle.host_media.specs.Sizes.{byte_count}
 use Rattle.host_media.proofs.ToldTiers.{length-content, told-back}
 use Rattle.host_media.proofs.disk_file.DiskFile.read_medium.Goals as goal
 
-pub returns-clause-told : goal.returns-clause-told
-returns-clause-told c =
+pub returns-clause-stands : goal.returns-clause-stands
+returns-clause-stands c =
     let tiers = c.in_ok-tiers.tiers in
     let long = length-content tiers in
     let made = c.in_ok-tiers.ensures in
