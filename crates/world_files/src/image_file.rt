@@ -59,7 +59,7 @@ impl ImageFile {
         path: &str,
         bytes: &[u8],
     ) -> Result<(), WorldFileError>
-        ensures written { OnOk result (IsWritten bytes.now) }
+        ensures { OnOk result (IsWritten bytes.now) }
     {
         let draft = draft_path(alloc, path)?;
         let _file = write_draft(files, alloc, draft.as_str(), bytes)?;
@@ -91,7 +91,7 @@ fn write_draft<R: Files<File = File>>(
     draft: &str,
     bytes: &[u8],
 ) -> Result<DiskFile, WorldFileError>
-    ensures whole { IfOk result (λ file. disk_told file ≡ known bytes.now) }
+    ensures { IfOk result (λ file. disk_told file ≡ known bytes.now) }
 {
     DiskFile::remove_unused(files, draft)?;
     let mut file = DiskFile::create(files, alloc, draft, bytes.len())?;

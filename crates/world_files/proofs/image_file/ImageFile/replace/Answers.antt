@@ -1,4 +1,4 @@
 use Rattle.world_files.proofs.image_file.ImageFile.replace.Goals as goal
 
-pub returns-clause-written : goal.returns-clause-written
-returns-clause-written c = (c.in_ok-_file._file, c.in_ok-_file.ensures.whole)
+pub returns : goal.returns
+returns g c = (c.in_ok-_file._file, c.in_ok-_file.ensures)
