@@ -1,5 +1,5 @@
 -- What one change makes of all stamps.
-use Rattle.std.proofs.Common.{◌≡◌, ◌≢◌, ◌×◌, ◌⊎◌, ◌<◌, ◌≤◌, ◌+◌, ◌-◌, ◌^◌, ◌++◌, ◌∷◌, ◌∙◌, [], ℕ, List, None, Some, Option, arith, inl, inr, refl, subst, sym, ap, length, max, min, set, cond, true, false, eqb, get_or, length-append, length-set, unwrap_or}
+use Rattle.std.proofs.Common.{◌≡◌, ◌≢◌, ◌⊎◌, ◌<◌, ◌≤◌, ◌+◌, ◌-◌, ◌^◌, ◌++◌, ◌∷◌, ◌∙◌, [], ℕ, List, None, Some, Option, arith, inl, inr, refl, subst, sym, ap, length, max, min, set, cond, true, false, eqb, get_or, length-append, length-set, unwrap_or, Result, Ok, Err, OnOk, OnErr}
 use Rattle.std.proofs.lemmas.Bool.{cases_lt}
 use Rattle.std.proofs.lemmas.Bool.Decides.{eqb_tells}
 use Rattle.std.proofs.lemmas.List.{get_or_append_left, get_or_default, get_or_past, get_or_push, get_or-set_other, get_or-set_same, set_past}
@@ -8,7 +8,7 @@ use Rattle.fuse_wire.specs.declared.request.NewTime.{NewTime}
 use Rattle.fuse_wire.specs.declared.request.NewTime.TheVariants as new_time
 use Rattle.mount_nodes.specs.declared.times.Stamp.{Stamp}
 use Rattle.mount_nodes.specs.declared.times.Times.{Times}
-use Rattle.mount_nodes.specs.Times.{Adds, Ages, BeginsAs, GoesOn, IsGiven, IsLater, IsNamed, IsSet, IsSetTo, IsTouched, IsWritten, Meets, Puts, Runs, StaysOrRises, first_stamp, named_stamp, next_time, set_accessed, set_modified, set_stamp, set_written, stamp_at, time_of, told_of, touched_stamp, written_stamp}
+use Rattle.mount_nodes.specs.Times.{Adds, Ages, BeginsAs, GoesOn, IsGiven, IsLater, IsNamed, IsSet, IsSetTo, IsTouched, IsWritten, Meets, Puts, Runs, Stays, StaysOrRises, first_stamp, named_stamp, next_time, set_accessed, set_modified, set_stamp, set_written, stamp_at, time_of, told_of, touched_stamp, written_stamp}
 use Rattle.mount_nodes.proofs.TimeLemmas.{same_ages}
 
 -- ---- where a stamp stands
@@ -255,3 +255,15 @@ add_meets a b id generation next same p = record {
     | inr f ↦ inl (added_at a b (first_stamp (generation + 1) a.began) other p (λ at. f.1 (at ∙ sym next)))
   ];
 }
+
+stays_meets : (a b : Times) → Stays a b → Meets a b
+stays_meets a b p = record {
+  began = p.began;
+  day = p.day;
+  last = p.last;
+  stamps = λ id. inl (ap (λ xs. get_or xs id (first_stamp 0 b.last)) p.kept ∙ ap (λ n. get_or a.stamps.items id (first_stamp 0 n)) p.last);
+}
+
+pub added_meets : {E : Type 0} (a b : Times) (id generation : ℕ) (result : Result (Unit {0}) E) → id ≡ length a.stamps.items → generation ≡ (stamp_at a id).generation → OnOk result (Adds a b (first_stamp (generation + 1) a.began)) → OnErr result (Stays a b) → Meets a b
+added_meets a b id generation (Ok x) next same added kept = add_meets a b id generation next same added
+added_meets a b id generation (Err e) next same added kept = stays_meets a b kept

@@ -1,5 +1,5 @@
 -- Times go on over several changes.
-use Rattle.std.proofs.Common.{◌≡◌, ◌×◌, ◌⊎◌, ◌≤◌, ◌∙◌, ℕ, None, Result, Ok, Err, OnOk, arith, inl, inr, refl, subst, sym, ap}
+use Rattle.std.proofs.Common.{◌≡◌, ◌⊎◌, ◌≤◌, ◌∙◌, ℕ, None, Result, Ok, Err, OnOk, arith, inl, inr, refl, subst, sym, ap}
 use Rattle.mount_nodes.specs.declared.times.Stamp.{Stamp}
 use Rattle.mount_nodes.specs.declared.times.Times.{Times}
 use Rattle.mount_nodes.specs.Times.{Ages, BeginsAs, GoesOn, IsLater, IsNamed, IsTouched, IsWritten, Meets, Runs, StaysOrRises, stamp_at}

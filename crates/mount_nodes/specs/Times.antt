@@ -90,6 +90,13 @@ pub record Adds (old new : Times) (s : Stamp) : Type 0 where
   pub last : new.last ≡ old.last
   pub added : new.stamps.items ≡ old.stamps.items ++ s ∷ []
 
+-- no stamp is another one
+pub record Stays (old new : Times) : Type 0 where
+  pub began : new.began ≡ old.began
+  pub day : new.day ≡ old.day
+  pub last : new.last ≡ old.last
+  pub kept : new.stamps.items ≡ old.stamps.items
+
 -- ---- how times go on
 
 -- the time of a change that is made now: the time of day, or the nanosecond behind the last change; it ends at 2^64 - 1, in the year 2554

@@ -63,8 +63,8 @@ impl Tables {
         );
         self.times.write(first.folder);
         self.times.write(second.folder);
-        self.times.name(one);
-        self.times.name(other);
+        self.times.give_name(one);
+        self.times.give_name(other);
     }
 }
 

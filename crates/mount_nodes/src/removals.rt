@@ -158,7 +158,7 @@ impl Tables {
         }
         self.enter_link(tree, (id, folder, &name), &old, &new)?;
         self.times.write(folder);
-        self.times.name(id);
+        self.times.give_name(id);
         self.tell_again(tree, id, &old)
     }
 

@@ -183,7 +183,7 @@ impl Tables {
         self.lose_known(replaced);
         self.times.write(old.folder);
         self.times.write(new.folder);
-        self.times.name(moved);
+        self.times.give_name(moved);
     }
 
     // What had the new name has it still. There is room for it, since the name of what was to move stands there.

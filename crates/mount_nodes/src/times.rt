@@ -1,6 +1,6 @@
 // When the nodes of a mount changed.
 ghost use Rattle.std.specs.Prelude.{◌≡◌, ◌≤◌, None, IfOk, OnErr, OnOk};
-ghost use Rattle.mount_nodes.specs.Times.{Adds, GoesOn, IsBegun, IsNamed, IsSet, IsTouched, IsWritten, Meets, Puts, Runs, first_stamp, named_stamp, next_time, set_stamp, stamp_at, time_of, told_of, touched_stamp, written_stamp};
+ghost use Rattle.mount_nodes.specs.Times.{Adds, GoesOn, Stays, IsBegun, IsNamed, IsSet, IsTouched, IsWritten, Meets, Puts, Runs, first_stamp, named_stamp, next_time, set_stamp, stamp_at, time_of, told_of, touched_stamp, written_stamp};
 
 use fuse_wire::{NewTime, Time};
 use std::alloc::{AllocError, Global};
@@ -104,16 +104,16 @@ impl Times {
     // Adds the stamp of the next number, which was not given so far.
     fn add(&mut self, stamp: Stamp) -> Result<(), AllocError>
         ensures added { OnOk result (Adds self.old self.new stamp) }
-        ensures refused { OnErr result (self.new ≡ self.old) }
+        ensures refused { OnErr result (Stays self.old self.new) }
     {
         self.stamps.push(stamp)?;
         Ok(())
     }
 
     /// Begins the times of a node that gets a number: it was not changed since the mount began. Refused where memory is wanting.
+    #[tactic(auto, using(crate::proofs::StampLemmas::put_meets, crate::proofs::StampLemmas::added_meets, crate::proofs::TimeLemmas::met_same))]
     pub(crate) fn begin(&mut self, id: u64) -> Result<(), AllocError>
-        ensures begins { OnOk result (Meets self.old self.new) }
-        ensures refused { OnErr result (self.new ≡ self.old) }
+        ensures { Meets self.old self.new }
     {
         let generation = self.generation(id);
         let count = self.stamps.len() as u64;
@@ -150,7 +150,7 @@ impl Times {
 
     /// Notes that a node has got a name now. Where it was not changed since the mount began, another node of the same time may have had that
     /// name, so this counts as a change of its bytes.
-    pub(crate) fn name(&mut self, id: u64)
+    pub(crate) fn give_name(&mut self, id: u64)
         ensures runs { Runs self.old self.new }
         ensures named { IsNamed self.old self.new id }
     {

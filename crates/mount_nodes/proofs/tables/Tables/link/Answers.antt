@@ -17,10 +17,10 @@ returns-clause-asked g c =
     inr (c.in_ok-old.old.items, c.in_ok-old.ensures.path, inr (_, c.in_ok-name.ensures.place.1, inr (asked_then g.T.Tree _ _ _ _ _ _ _ _ linked told)))
 
 pub returns-clause-times : goal.returns-clause-times
-returns-clause-times g c = runs_to _ _ _ (runs_from _ _ _ c.in_ok-enter_link.ensures.times (runs_then _ _ _ c.write.ensures.runs c.name.ensures.runs)) c.tell_again.ensures.times
+returns-clause-times g c = runs_to _ _ _ (runs_from _ _ _ c.in_ok-enter_link.ensures.times (runs_then _ _ _ c.write.ensures.runs c.give_name.ensures.runs)) c.tell_again.ensures.times
 
 pub returns-clause-entered : goal.returns-clause-entered
-returns-clause-entered g c = on_ok _ _ (written_to _ _ _ _ (written_from _ _ _ _ c.in_ok-enter_link.ensures.times (written_then _ _ _ _ c.write.ensures.runs.goes c.write.ensures.written c.name.ensures.runs)) c.tell_again.ensures.times)
+returns-clause-entered g c = on_ok _ _ (written_to c.args.self.now.times c.give_name.new.self c.tell_again.new.self.times c.args.folder (written_from c.args.self.now.times c.enter_link.new.self.times c.give_name.new.self c.args.folder c.in_ok-enter_link.ensures.times (written_then c.enter_link.new.self.times c.write.new.self c.give_name.new.self c.args.folder c.write.ensures.runs.goes c.write.ensures.written c.give_name.ensures.runs)) c.tell_again.ensures.times)
 
 pub returns-clause-named : goal.returns-clause-named
-returns-clause-named g c = on_ok _ _ (named_to _ _ _ _ (named_from _ _ _ _ c.in_ok-enter_link.ensures.times (named_since _ _ _ _ c.write.ensures.runs.goes c.name.ensures.runs.goes c.name.ensures.named)) c.tell_again.ensures.times)
+returns-clause-named g c = on_ok _ _ (named_to c.args.self.now.times c.give_name.new.self c.tell_again.new.self.times c.args.id (named_from c.args.self.now.times c.enter_link.new.self.times c.give_name.new.self c.args.id c.in_ok-enter_link.ensures.times (named_since c.enter_link.new.self.times c.write.new.self c.give_name.new.self c.args.id c.write.ensures.runs.goes c.give_name.ensures.runs.goes c.give_name.ensures.named)) c.tell_again.ensures.times)

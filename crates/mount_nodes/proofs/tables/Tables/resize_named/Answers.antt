@@ -20,4 +20,4 @@ pub returns-clause-times : goal.returns-clause-times
 returns-clause-times g c = runs_to _ _ _ c.write.ensures.runs c.tell_known.ensures.times
 
 pub returns-clause-written : goal.returns-clause-written
-returns-clause-written g c = on_ok _ _ (written_to _ _ _ _ c.write.ensures.written c.tell_known.ensures.times)
+returns-clause-written g c = on_ok _ _ (written_to c.args.self.now.times c.write.new.self c.tell_known.new.self.times c.args.id c.write.ensures.written c.tell_known.ensures.times)

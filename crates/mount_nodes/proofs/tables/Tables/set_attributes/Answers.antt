@@ -9,7 +9,7 @@ pub returns-clause-times : goal.returns-clause-times
 returns-clause-times g c = goes_then _ _ _ c.in_ok-attributes.ensures.times.goes c.set.ensures.goes_on
 
 pub returns-clause-written : goal.returns-clause-written
-returns-clause-written g c = λ some. touched_then _ _ _ _ c.in_ok-attributes.ensures.times.goes (written_is_touched _ _ _ (c.in_ok-attributes.ensures.written some)) c.set.ensures.goes_on
+returns-clause-written g c = λ some. touched_then c.args.self.now.times c.set_size_of.new.self.times c.set.new.self c.args.id c.in_ok-attributes.ensures.times.goes (written_is_touched c.args.self.now.times c.set_size_of.new.self.times c.args.id (c.in_ok-attributes.ensures.written some)) c.set.ensures.goes_on
 
 pub returns-clause-set : goal.returns-clause-set
 returns-clause-set g c = c.set.ensures.set

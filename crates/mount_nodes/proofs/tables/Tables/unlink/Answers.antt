@@ -13,4 +13,4 @@ pub returns-clause-times : goal.returns-clause-times
 returns-clause-times g c = runs_from _ _ _ c.in_ok-hold_open.ensures.times c.leave.ensures.times
 
 pub returns-clause-left : goal.returns-clause-left
-returns-clause-left g c = written_from _ _ _ _ c.in_ok-hold_open.ensures.times c.leave.ensures.left
+returns-clause-left g c = written_from c.args.self.now.times c.hold_open.new.self.times c.leave.new.self.times c.args.folder c.in_ok-hold_open.ensures.times c.leave.ensures.left

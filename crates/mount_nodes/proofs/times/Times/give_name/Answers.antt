@@ -1,5 +1,5 @@
 use Rattle.mount_nodes.proofs.StampLemmas.{name_runs, name_is_named}
-use Rattle.mount_nodes.proofs.times.Times.name.Goals as goal
+use Rattle.mount_nodes.proofs.times.Times.give_name.Goals as goal
 
 pub returns-clause-runs : goal.returns-clause-runs
 returns-clause-runs c =
