@@ -1,3 +1,4 @@
+pub mod Ranges
 pub mod Choices
 pub mod Trees
 pub mod Rewrites

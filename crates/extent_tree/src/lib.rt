@@ -7,6 +7,7 @@ mod byte_search;
 mod extent_join;
 mod freed_places;
 mod leaf_choice;
+mod leaf_homes;
 mod leaf_search;
 mod map;
 mod map_change;
@@ -21,7 +22,6 @@ mod upper_levels;
 pub use byte_search::find_extent;
 pub use extent_join::{push, push_part};
 pub use map::{BlockMap, Place};
-pub use map_change::change;
 pub use map_laws::{
     few_blocks_are_few_runs, put_blocks_lie_apart, put_blocks_lie_once, put_blocks_lie_within,
     whole_map_fits_a_block,
