@@ -1,12 +1,11 @@
 -- Which leaves are rewritten, and with which entries.
-use Rattle.std.proofs.Common.{refl, ◌≡◌, ◌≢◌, ◌≤◌, ◌<◌, inl, inr, ℕ, zero, suc, ◌+◌, ◌-◌, ◌*◌, ◌/◌, ◌^◌, List, [], ◌∷◌, ◌++◌, length, get_or, take, drop, sym, ap, ◌∙◌, arith, subst, length-append, append_assoc}
+use Rattle.std.proofs.Common.{refl, ◌≡◌, ◌≤◌, ◌<◌, inl, inr, ℕ, zero, suc, ◌+◌, ◌-◌, ◌*◌, ◌/◌, List, [], ◌∷◌, ◌++◌, length, get_or, take, drop, sym, ap, ◌∙◌, arith, subst, length-append}
 use Rattle.std.specs.Prelude.{slice_range, replicate}
 use Rattle.std.specs.List.{AllByRecursion}
 use Rattle.std.proofs.lemmas.Bool.{cases_lt}
-use Rattle.std.proofs.lemmas.List.{append-nil, length-drop, length-take, get_or-take, get_or-drop}
+use Rattle.std.proofs.lemmas.List.{append-nil, drop_more, length-drop, length-take, get_or-take, get_or-drop}
 use Rattle.layout.specs.declared.extents.Extent.{Extent}
-use Rattle.extent_tree.specs.Normal.{IsRising, IsMap}
-use Rattle.extent_tree.specs.Changes.{ArePieces, changed_extents}
+use Rattle.extent_tree.specs.Normal.{IsMap}
 use Rattle.extent_tree.specs.Nodes.{flat, AreFilled, HaveFrom}
 use Rattle.extent_tree.specs.LeafChoice.{Touched, Remade, IsEnough, IsChosen, MeetsEach, MeetsButOne}
 use Rattle.extent_tree.specs.Value.{Meets, OthersStay, ExtentMap, tree_map, leaf_blocks}
@@ -19,8 +18,13 @@ use Rattle.extent_tree.proofs.Rewrites.{all-take, all-drop, piece-rises, Rewritt
 slice-long : {X : Type 0} (a b : ℕ) (xs : List X) → a ≤ b → b ≤ length xs → length (slice_range xs a b) ≡ b - a
 slice-long a b xs ab within = omega (arith, length-take (b - a) (drop a xs), length-drop a xs, ab, within)
 
-slice-none : (a : ℕ) (ns : List (List Extent)) → flat (slice_range ns a a) ≡ []
+pub slice-none : (a : ℕ) (ns : List (List Extent)) → flat (slice_range ns a a) ≡ []
 slice-none a ns = let none : a - a ≡ 0 = omega arith in ap (λ k. flat (take k (drop a ns))) none
+
+pub one-slice : (a : ℕ) (ns : List (List Extent)) (d : List Extent) → a < length ns → flat (slice_range ns a (a + 1)) ≡ get_or ns a d
+one-slice a ns d lt =
+    let one : a + 1 - a ≡ 1 = omega arith in
+    ap (λ k. flat (take k (drop a ns))) one ∙ ap (λ l. flat (take 1 l)) (drop_more ns a d lt) ∙ append-nil (get_or ns a d)
 
 -- what holds of each of some leaves
 all-each : {X : Type 0} (P : X → Type 0) (xs : List X) → ((k : ℕ) (d : X) → k < length xs → P (get_or xs k d)) → AllByRecursion P xs
@@ -103,6 +107,9 @@ chosen-touched width first count pieces from to ns some wide map filled most t e
 
 -- ---- one leaf more
 
+times-one : (n : ℕ) → n * 1 ≡ n
+times-one n = omega arith
+
 -- the entries of one leaf more: a quarter of the width at least, the width at most
 beside-count : (width from to from' to' : ℕ) (ns : List (List Extent)) → HaveFrom (width / 4) width ns → from ≤ to → from' ≤ from → to ≤ to' → to' ≤ length ns → to' + from ≡ to + from' + 1
     → (width / 4 ≤ length (flat (slice_range ns from' from)) + length (flat (slice_range ns to to'))) × (length (flat (slice_range ns from' from)) + length (flat (slice_range ns to to')) ≤ width)
@@ -110,14 +117,18 @@ beside-count width from to from' to' ns have order less more within one = elim (
   | inl lower ↦
       let least = slice-least (width / 4) width from' from ns have (omega (arith, lower, one, more)) (omega (arith, order, more, within)) in
       let most = slice-most (width / 4) width from' from ns have less (omega (arith, one, more)) (omega (arith, order, more, within)) in
-      let none : length (flat (slice_range ns to to')) ≡ 0 = ap (λ k. length (flat (slice_range ns to k))) (omega (arith, lower, one, more)) ∙ ap length (slice-none to ns) in
-      let step : width * (from - from') ≡ width = ap (λ k. width * k) (omega (arith, lower, one, more)) ∙ omega arith in
+      let same : to' ≡ to = omega (arith, lower, one, more) in
+      let single : from - from' ≡ 1 = omega (arith, lower, one, more) in
+      let none : length (flat (slice_range ns to to')) ≡ 0 = ap (λ k. length (flat (slice_range ns to k))) same ∙ ap length (slice-none to ns) in
+      let step : width * (from - from') ≡ width = ap (λ k. width * k) single ∙ times-one width in
       (omega (arith, least), omega (arith, most, none, step))
   | inr same ↦
       let least = slice-least (width / 4) width to to' ns have (omega (arith, same, one, less)) within in
       let most = slice-most (width / 4) width to to' ns have more (omega (arith, one, less, same)) within in
-      let none : length (flat (slice_range ns from' from)) ≡ 0 = ap (λ k. length (flat (slice_range ns from' k))) (omega (arith, same, less)) ∙ ap length (slice-none from' ns) in
-      let step : width * (to' - to) ≡ width = ap (λ k. width * k) (omega (arith, same, one, less)) ∙ omega arith in
+      let equal : from ≡ from' = omega (arith, same, less) in
+      let single : to' - to ≡ 1 = omega (arith, same, one, less) in
+      let none : length (flat (slice_range ns from' from)) ≡ 0 = ap (λ k. length (flat (slice_range ns from' k))) equal ∙ ap length (slice-none from' ns) in
+      let step : width * (to' - to) ≡ width = ap (λ k. width * k) single ∙ times-one width in
       (omega (arith, least), omega (arith, most, none, step))
 ]
 

@@ -1,4 +1,5 @@
 pub mod Ranges
+pub mod Homes
 pub mod Choices
 pub mod Trees
 pub mod Rewrites

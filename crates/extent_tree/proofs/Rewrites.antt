@@ -202,7 +202,7 @@ spliced-long from to homes new old packed leaves new_is leaves_are same =
     let b = length-append (replicate (length packed) 0) (drop to homes) in
     let n = ap length leaves_are ∙ length-append (take from old) (packed ++ drop to old) in
     let m = length-append packed (drop to old) in
-    omega (arith, a, b, n, m, same, length-replicate (length packed) 0, length-take from homes, length-take from old, length-drop to homes, length-drop to old)
+    omega (arith, a, b, n, m, same, length-replicate {A = ℕ} (length packed) 0, length-take from homes, length-take from old, length-drop to homes, length-drop to old)
 
 -- ---- what the calls of a change tell, put together
 

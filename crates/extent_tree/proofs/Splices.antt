@@ -7,7 +7,7 @@ use Rattle.std.proofs.lemmas.Option.{none-some, same_Some}
 use Rattle.std.proofs.lemmas.List.{append-nil}
 use Rattle.layout.specs.declared.extents.Extent.{Extent}
 use Rattle.extent_tree.specs.Places.{in_run, place_in, place_of}
-use Rattle.extent_tree.specs.Normal.{IsRising, Point, start_of, stop_of, Meet, NoneGoesOn, PlacesFit, IsMap, Joins}
+use Rattle.extent_tree.specs.Normal.{IsRising, Point, start_of, stop_of, Meet, NoneGoesOn, IsMap, Joins}
 use Rattle.extent_tree.specs.Parts.{part}
 use Rattle.extent_tree.specs.Changes.{after, piece, replaced, ArePieces, changed_extents, EndBefore, BeginBehind}
 use Rattle.extent_tree.specs.Nodes.{last_end}

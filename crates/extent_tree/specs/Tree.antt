@@ -37,7 +37,7 @@ pub record IsWidth (width : ℕ) : Type 0 where
 -- the leaves spell a map, the levels above cover them, and each leaf has a block or 0
 pub record IsExtentTree (width : ℕ) (leaves : List (List Extent)) (homes : List ℕ) (inner : List (List (List Extent))) : Type 0 where
   pub width_is : IsWidth width
-  pub map : IsMap (flat leaves)
+  pub spells : IsMap (flat leaves)
   pub homed : length homes ≡ length leaves
   pub level : IsLevel width leaves
   pub tree : IsTree width leaves inner

@@ -32,6 +32,11 @@ with_homes [] blocks = []
 with_homes (h ∷ hs) [] = h ∷ hs
 with_homes (h ∷ hs) (b ∷ bs) = if h == 0 then b ∷ with_homes hs bs else h ∷ with_homes hs (b ∷ bs)
 
+-- The first so many leaves are done, with the first so many blocks given: those that are left, given to the others, make the whole list.
+pub record Filling (index given : ℕ) (homes blocks all : List ℕ) : Type 0 where
+  pub left : given + missing (drop index homes) ≡ length blocks
+  pub filled : take index homes ++ with_homes (drop index homes) (drop given blocks) ≡ all
+
 -- the entries of a root above leaves: what each covers, and its block
 abbrev pub covers_of : List (List Extent) → List ℕ → List Extent
 covers_of [] homes = []

@@ -74,6 +74,24 @@ fn is_enough(width: usize, span: Span, leaves: usize, entries: usize) -> bool
     width / 4 <= entries || (span.from == 0 && span.to == leaves)
 }
 
+// The entries of one leaf.
+fn one_leaf(leaves: &[Node], at: usize) -> &[Extent]
+    requires { at < length leaves.now }
+    ensures { result.now ≡ flat (slice_range leaves.now at (at + 1)) }
+{
+    leaves[at].as_slice()
+}
+
+// Some entries and others behind them, as they are.
+fn join(alloc: Global, front: &[Extent], back: &[Extent]) -> Result<Vec<Extent>, AllocError>
+    ensures { IfOk result (λ v. v.items ≡ front.now ++ back.now) }
+{
+    let mut list = Vec::new(alloc);
+    list.extend_from_slice(front)?;
+    list.extend_from_slice(back)?;
+    Ok(list)
+}
+
 // The entries of some leaves with those of one beside them, as these are: of the leaf before them, or behind them where they are the first.
 fn with_one_beside(
     alloc: Global,
@@ -90,27 +108,22 @@ fn with_one_beside(
     ensures one { IfOk result (λ c. c.span.to + span.from ≡ span.to + c.span.from + 1) }
     ensures parts { IfOk result (λ c. c.entries.items ≡ flat (slice_range leaves.now c.span.from span.from) ++ (entries.now ++ flat (slice_range leaves.now span.to c.span.to))) }
 {
-    let mut all = Vec::new(alloc);
     if 0 < span.from {
-        all.extend_from_slice(leaves[span.from - 1].as_slice())?;
-        all.extend_from_slice(entries)?;
-        return Ok(Chosen {
-            span: Span {
-                from: span.from - 1,
-                to: span.to,
-            },
-            entries: all,
-        });
+        let more = one_leaf(leaves, span.from - 1);
+        let entries = join(alloc, more, entries)?;
+        let span = Span {
+            from: span.from - 1,
+            to: span.to,
+        };
+        return Ok(Chosen { span, entries });
     }
-    all.extend_from_slice(entries)?;
-    all.extend_from_slice(leaves[span.to].as_slice())?;
-    Ok(Chosen {
-        span: Span {
-            from: 0,
-            to: span.to + 1,
-        },
-        entries: all,
-    })
+    let more = one_leaf(leaves, span.to);
+    let entries = join(alloc, entries, more)?;
+    let span = Span {
+        from: 0,
+        to: span.to + 1,
+    };
+    Ok(Chosen { span, entries })
 }
 
 /// The leaves to be rewritten where a run of blocks gets these pieces, and their entries then.
@@ -137,5 +150,6 @@ pub fn choose(
         return Ok(Chosen { span, entries });
     }
     // One leaf beside them has a quarter of the width itself.
-    with_one_beside(alloc, leaves, span, &entries)
+    let beside = with_one_beside(alloc, leaves, span, &entries)?;
+    Ok(beside)
 }

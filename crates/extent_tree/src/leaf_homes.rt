@@ -1,8 +1,8 @@
 // The leaves of a tree and the blocks where they stand.
-ghost use Rattle.std.specs.Prelude.{◌≡◌, ◌≤◌, ◌++◌, [], length, replicate, slice_range, take, drop, IfOk, OnOk, OnErr};
+ghost use Rattle.std.specs.Prelude.{◌≡◌, ◌≤◌, ◌<◌, ◌+◌, ◌++◌, ◌∷◌, [], ℕ, List, length, replicate, slice_range, take, drop, IfOk, OnOk, OnErr};
 ghost use Rattle.extent_tree.specs.Nodes.{flat, AreFilled};
 ghost use Rattle.extent_tree.specs.Normal.{IsRising};
-ghost use Rattle.extent_tree.specs.Value.{covers_of, missing, with_homes, leaf_blocks};
+ghost use Rattle.extent_tree.specs.Value.{covers_of, missing, with_homes, leaf_blocks, Filling};
 
 use crate::Node;
 use crate::leaf_choice::Span;
@@ -56,6 +56,19 @@ pub fn count_missing(homes: &[u32]) -> usize
     homes.iter().filter(|home| **home == 0).count()
 }
 
+// Gives the next block to a leaf, if it has none; how many are given then.
+fn fill_one(homes: &mut [u32], index: usize, blocks: &[u32], given: usize) -> usize
+    requires within { index < length homes.old }
+    requires filling { (all : List ℕ) × Filling index given homes.old blocks.now all }
+    ensures { (all : List ℕ) → Filling index given homes.old blocks.now all → Filling (index + 1) result homes.new blocks.now all }
+{
+    if homes[index] != 0 {
+        return given;
+    }
+    homes[index] = blocks[given];
+    given + 1
+}
+
 /// Gives blocks to the leaves that have none, one after the other.
 pub fn fill_homes(homes: &mut [u32], blocks: &[u32])
     requires { length blocks.now ≡ missing homes.old }
@@ -63,10 +76,7 @@ pub fn fill_homes(homes: &mut [u32], blocks: &[u32])
 {
     let mut given = 0;
     'each: for index in 0..homes.len() {
-        if homes[index] == 0 {
-            homes[index] = blocks[given];
-            given += 1;
-        }
+        given = fill_one(homes, index, blocks, given);
     }
 }
 
@@ -82,18 +92,14 @@ pub fn push_covers(
     ensures { OnOk result (covers.new.items ≡ covers.old.items ++ covers_of nodes.now homes.now) }
 {
     'each: for index in 0..nodes.len() {
-        covers.push(summary_of(nodes[index].as_slice(), homes[index]))?;
+        let entry = summary_of(nodes[index].as_slice(), homes[index]);
+        covers.push(entry)?;
     }
     Ok(())
 }
 
 // The blocks of leaves, of which some give place to so many that have none.
-fn new_homes(
-    alloc: Global,
-    homes: &[u32],
-    span: Span,
-    count: usize,
-) -> Result<Vec<u32>, AllocError>
+fn new_homes(alloc: Global, homes: &[u32], span: Span, count: usize) -> Result<Vec<u32>, AllocError>
     requires order { span.from ≤ span.to }
     requires within { span.to ≤ length homes.now }
     ensures { IfOk result (λ v. v.items ≡ take span.from homes.now ++ (replicate count 0 ++ drop span.to homes.now)) }
@@ -115,6 +121,17 @@ fn push_none(homes: &mut Vec<u32>, count: usize) -> Result<(), AllocError>
     Ok(())
 }
 
+// The block of a leaf more, where it has one.
+fn push_home(list: &mut Vec<u32>, home: u32) -> Result<(), AllocError>
+    ensures { OnOk result (list.new.items ≡ list.old.items ++ leaf_blocks (home ∷ [])) }
+{
+    if home == 0 {
+        return Ok(());
+    }
+    list.push(home)?;
+    Ok(())
+}
+
 // The blocks that were left before, and those of some more leaves.
 fn more_left(alloc: Global, left: &[u32], homes: &[u32]) -> Result<Vec<u32>, AllocError>
     ensures { IfOk result (λ v. v.items ≡ left.now ++ leaf_blocks homes.now) }
@@ -122,9 +139,7 @@ fn more_left(alloc: Global, left: &[u32], homes: &[u32]) -> Result<Vec<u32>, All
     let mut list = Vec::new(alloc);
     list.extend_from_slice(left)?;
     'each: for index in 0..homes.len() {
-        if homes[index] != 0 {
-            list.push(homes[index])?;
-        }
+        push_home(&mut list, homes[index])?;
     }
     Ok(list)
 }

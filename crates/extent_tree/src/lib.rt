@@ -1,6 +1,6 @@
 //! The extents of one inode in one tier: a map from logical blocks to places, kept as a tree of nodes.
 //!
-//! Contracts see an `Extents` as its runs, in the normal form of `extent_nodes`, and how many entries each level of its tree has.
+//! Contracts see an `Extents` as its runs, how many entries each level of its tree has, and its leaves with the blocks where they stand.
 #![tactic(auto)]
 
 mod byte_search;
@@ -8,6 +8,7 @@ mod extent_join;
 mod freed_places;
 mod leaf_choice;
 mod leaf_homes;
+mod leaf_laws;
 mod leaf_search;
 mod map;
 mod map_change;
@@ -21,6 +22,7 @@ mod upper_levels;
 
 pub use byte_search::find_extent;
 pub use extent_join::{push, push_part};
+pub use leaf_laws::few_leaves_are_made;
 pub use map::{BlockMap, Place};
 pub use map_laws::{
     few_blocks_are_few_runs, put_blocks_lie_apart, put_blocks_lie_once, put_blocks_lie_within,

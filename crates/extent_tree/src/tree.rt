@@ -188,7 +188,7 @@ impl<const N: usize> Extents<N> {
     }
 
     /// How many leaves have no block.
-    pub fn missing(&self) -> usize
+    pub fn homes_missing(&self) -> usize
         ensures missing { result ≡ missing self.now.homes }
         ensures few { result ≤ length self.now.leaves }
     {

@@ -1,5 +1,5 @@
-use Rattle.std.proofs.Common.{◌≡◌, ◌≤◌, ◌++◌, ◌+◌, arith, subst, append_assoc}
-use Rattle.extent_tree.specs.Normal.{IsRising, Joins}
+use Rattle.std.proofs.Common.{◌≡◌, ◌++◌, ◌+◌, arith, subst, append_assoc}
+use Rattle.extent_tree.specs.Normal.{Joins}
 use Rattle.extent_tree.specs.Parts.{part}
 use Rattle.extent_tree.proofs.Joined.{joins-more}
 use Rattle.extent_tree.proofs.Parts.{part-all}

@@ -1,15 +1,14 @@
-use Rattle.std.proofs.Common.{◌≡◌, ◌<◌, ◌+◌, ◌-◌, ◌∙◌, length, refl, sym, ap, subst, take, drop, arith}
-use Rattle.std.proofs.lemmas.List.{length-append, length-replicate, length-take, length-drop}
-use Rattle.std.specs.Prelude.{replicate}
+use Rattle.std.proofs.Common.{◌≡◌, ◌<◌, ◌-◌, ◌∙◌, length, sym, ap, subst, take, drop, arith}
 use Rattle.extent_tree.specs.Places.{place_of}
 use Rattle.extent_tree.specs.Normal.{IsRising, NoneGoesOn, IsMap}
 use Rattle.extent_tree.specs.Nodes.{flat}
 use Rattle.extent_tree.specs.Tree.{IsLevel, IsNeeded, IsTree, IsExtentTree}
-use Rattle.extent_tree.specs.Value.{tree_map, OthersStay}
+use Rattle.extent_tree.specs.Value.{tree_map}
 use Rattle.extent_tree.specs.LeafChoice.{MeetsButOne}
 use Rattle.extent_tree.proofs.Trees.{grown-by-need, stays-one}
 use Rattle.extent_tree.proofs.Rewrites.{told, slices, flat-three, spliced-long, rewritten-map, rewritten-apart, rewritten-at, rewritten-level, rewritten-needed}
 use Rattle.extent_tree.proofs.Choices.{all-stay, others-stay}
+use Rattle.extent_tree.proofs.Homes.{always_on_err}
 use Rattle.extent_tree.proofs.tree.rewrite.Goals as goal
 
 pub choose-requires : goal.choose-requires
@@ -85,7 +84,7 @@ returns-clause-grown g c =
     let same = slices chosen.span.from chosen.span.to old packed c.deref-3.result.now c.deref-4.result.now c.deref-5.result.now c.deref-3.ensures.value c.deref-4.ensures.value c.deref-5.ensures.value in
     let new = sym c.in_ok-put_leaves.ensures.nodes in
     let tree = subst (λ l. IsTree g.row.N l c.in_ok-above.above.items) (same ∙ new) c.in_ok-above.ensures in
-    grown-by-need g.row.N old c.put_leaves.new.leaves.nodes.items _ _ _ _ c.args.inner.now.items c.in_ok-above.above.items c.requires.sound.tree tree
+    grown-by-need g.row.N old c.put_leaves.new.leaves.nodes.items c.args.leaves.now.homes.items c.args.leaves.now.left.items c.put_leaves.new.leaves.homes.items c.put_leaves.new.leaves.left.items c.args.inner.now.items c.in_ok-above.above.items c.requires.sound.tree tree
     (λ single. subst (IsNeeded g.row.N) new (rewritten-needed g.row.N c.args.run.first c.args.run.count c.args.pieces.now chosen.span.from chosen.span.to old packed chosen.entries.items r single))
 
 pub returns-clause-one : goal.returns-clause-one
@@ -128,7 +127,9 @@ returns-in_err-put_leaves-clause-sound g c =
 pub returns-in_err-put_leaves-clause-kept : goal.returns-in_err-put_leaves-clause-kept
 returns-in_err-put_leaves-clause-kept g c =
     let e = c.in_err-put_leaves.ensures in
-    λ i. tree_map (e.nodes_kept i) (e.homes_kept i) (e.left_kept i) c.args.inner.now.items
+    let same : tree_map c.put_leaves.new.leaves.nodes.items c.put_leaves.new.leaves.homes.items c.put_leaves.new.leaves.left.items c.args.inner.now.items ≡ tree_map c.args.leaves.now.nodes.items c.args.leaves.now.homes.items c.args.leaves.now.left.items c.args.inner.now.items =
+    λ i. tree_map (e.nodes_kept i) (e.homes_kept i) (e.left_kept i) c.args.inner.now.items in
+    always_on_err c.from_residual-in_err-put_leaves.result same
 
 pub returns-then-run-eq0-clause-apart : goal.returns-then-run-eq0-clause-apart
 returns-then-run-eq0-clause-apart g c apart = apart

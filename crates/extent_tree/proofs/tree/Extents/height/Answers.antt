@@ -1,6 +1,6 @@
 use Rattle.std.proofs.Common.{◌≡◌, ◌≤◌, ◌<◌, ◌+◌, ◌-◌, ◌*◌, ◌/◌, ◌^◌, suc, arith, subst, length}
 use Rattle.extent_tree.specs.Nodes.{flat}
-use Rattle.extent_tree.proofs.Trees.{nodes-few, levels-few, most-entries, some-levels}
+use Rattle.extent_tree.proofs.Trees.{nodes-few, levels-few, most-entries, some-levels, third-level}
 use Rattle.extent_tree.proofs.tree.Extents.height.Goals as goal
 
 pub overflow_cast-result : goal.overflow_cast-result
@@ -29,3 +29,10 @@ returns-clause-least g c several =
     let least = some-levels g.row.N leaves inner c.self.invariant.level c.self.invariant.tree some in
     let here : 2 * (g.row.N / 4) ^ (1 + c.len.result - 1) ≤ length (flat leaves) = subst (λ k. 2 * (g.row.N / 4) ^ k ≤ length (flat leaves)) levels least in
     subst (λ v. 2 * (g.row.N / 4) ^ (1 + c.len.result - 1) ≤ length v.runs) c.self.view_is here
+
+pub returns-clause-two : goal.returns-clause-two
+returns-clause-two g c more =
+    let inner = c.self.inside.inner.items in
+    let leaves = c.self.inside.leaves.nodes.items in
+    let levels : 1 < length inner = omega (arith, more, c.len.ensures) in
+    subst (λ v. (g.row.N / 4) * (g.row.N + 1) ≤ length v.runs) c.self.view_is (third-level g.row.N leaves inner c.self.invariant.level c.self.invariant.tree levels)
