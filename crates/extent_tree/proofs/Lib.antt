@@ -19,3 +19,4 @@ pub mod Runs
 pub mod GivenUp
 pub mod Moved
 pub mod EntryReads
+pub mod TreeLaws

@@ -18,6 +18,7 @@ mod node_laws;
 mod node_pack;
 mod node_search;
 mod tree;
+mod tree_laws;
 mod upper_levels;
 
 pub use byte_search::find_extent;
@@ -33,3 +34,4 @@ pub use node_laws::{block_spells_a_map, map_is_spelled_by_a_block, normal_form_i
 pub use node_pack::{pack, push_entries, push_summaries};
 pub use node_search::{nodes_before, nodes_up_to};
 pub use tree::{Counted, Extents};
+pub use tree_laws::lowest_tree_is_one_block;
