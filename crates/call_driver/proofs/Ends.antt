@@ -3,7 +3,6 @@ use Rattle.std.proofs.Common.{◌≡◌, ◌≢◌, ◌+◌, ◌≤◌, ℕ, Boo
 use Rattle.std.specs.Prelude.{Result, Ok, Err}
 use Rattle.posix_calls.specs.declared.call.Call.{Call}
 use Rattle.interleavings.specs.client_plan.declared.need.Need.{Need}
-use Rattle.interleavings.specs.lease_manager.declared.view.LeaseMode.{LeaseMode}
 use Rattle.interleavings.specs.libfs.declared.denial.Denied.{Denied}
 use Rattle.interleavings.specs.event_steps.declared.event.Event.{Event}
 use Rattle.interleavings.specs.event_steps.declared.event.Event.TheVariants as kinds
@@ -26,6 +25,10 @@ went_on outcome.Pending is = absurd (cc)
 went_on (outcome.Need need) is = absurd (cc)
 went_on outcome.Stepped is = refl
 went_on (outcome.Refused why) is = absurd (cc)
+went_on outcome.Died is = absurd (cc)
+went_on (outcome.Settled fate) is = absurd (cc)
+went_on outcome.Buried is = absurd (cc)
+went_on outcome.Joined is = absurd (cc)
 went_on outcome.Idle is = absurd (cc)
 
 same_served : (x y : CallResult) → Some x ≡ Some y → x ≡ y
@@ -37,6 +40,10 @@ last_step outcome.Pending x is other = absurd (cc)
 last_step (outcome.Need need) x is other = absurd (cc)
 last_step outcome.Stepped x is other = absurd (other (same_served x served.Pending is))
 last_step (outcome.Refused why) x is other = absurd (cc)
+last_step outcome.Died x is other = absurd (cc)
+last_step (outcome.Settled fate) x is other = absurd (cc)
+last_step outcome.Buried x is other = absurd (cc)
+last_step outcome.Joined x is other = absurd (cc)
 last_step outcome.Idle x is other = absurd (cc)
 
 of_none : (x : CallResult) → None ≡ Some x → ⊥
@@ -48,6 +55,10 @@ none_step outcome.Pending is = refl
 none_step (outcome.Need need) is = refl
 none_step outcome.Stepped is = absurd (of_none served.Pending is)
 none_step (outcome.Refused why) is = refl
+none_step outcome.Died is = refl
+none_step (outcome.Settled fate) is = refl
+none_step outcome.Buried is = refl
+none_step outcome.Joined is = refl
 none_step outcome.Idle is = refl
 
 module _ {S : Type 0} (plays : S → Event → Outcome → S → Type 0) (client : ℕ) where
@@ -77,6 +88,10 @@ needed outcome.Pending need is = absurd (cc)
 needed (outcome.Need other) need is = ap (λ (x : Need). outcome.Need x) (same_need other need (sym is))
 needed outcome.Stepped need is = absurd (cc)
 needed (outcome.Refused why) need is = absurd (cc)
+needed outcome.Died need is = absurd (cc)
+needed (outcome.Settled fate) need is = absurd (cc)
+needed outcome.Buried need is = absurd (cc)
+needed outcome.Joined need is = absurd (cc)
 needed outcome.Idle need is = absurd (cc)
 
 module _ {S : Type 0} (system : Ghosts S) (hands : Bool) (client : ℕ) (call : Call) (e : Event) (starts : e ≡ kinds.Start client call) where

@@ -1,9 +1,6 @@
 -- Clients that gave way, one after the other.
-use Rattle.std.proofs.Common.{◌≡◌, ◌≢◌, ◌+◌, ◌<◌, ℕ, Bool, inl, inr, refl, sym, add-one, subst}
+use Rattle.std.proofs.Common.{◌≡◌, ◌≢◌, ◌+◌, ◌<◌, ℕ, inl, inr, refl, sym, add-one, subst}
 use Rattle.interleavings.specs.lease_manager.declared.layout.TheConstants.{CLIENTS}
-use Rattle.interleavings.specs.lease_manager.declared.view.LeaseMode.{LeaseMode}
-use Rattle.interleavings.specs.event_steps.declared.event.Event.{Event}
-use Rattle.interleavings.specs.event_steps.declared.outcome.Outcome.{Outcome}
 use Rattle.call_driver.specs.LeaseReturn.{GaveWay, GivesWay, OthersHandOver}
 use Rattle.call_driver.specs.declared.needs.NeedResult.{NeedResult}
 use Rattle.call_driver.specs.declared.needs.NeedResult.TheVariants as turns

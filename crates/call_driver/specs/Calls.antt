@@ -3,8 +3,8 @@ use Rattle.std.specs.Prelude.{◌≡◌, ◌≢◌, ◌⊎◌, ◌≤◌, ◌*�
 use Rattle.posix_calls.specs.declared.call.Call.{Call}
 use Rattle.interleavings.specs.client_plan.declared.need.Need.{Need}
 use Rattle.interleavings.specs.lease_manager.declared.layout.TheConstants.{INODES}
-use Rattle.interleavings.specs.lease_manager.declared.view.LeaseMode.{LeaseMode}
 use Rattle.interleavings.specs.libfs.declared.denial.Denied.{Denied}
+use Rattle.interleavings.specs.libfs.declared.life.Life.TheVariants as lives
 use Rattle.interleavings.specs.event_steps.declared.event.Event.{Event}
 use Rattle.interleavings.specs.event_steps.declared.event.Event.TheVariants as event
 use Rattle.interleavings.specs.event_steps.declared.outcome.Outcome.{Outcome}
@@ -32,6 +32,10 @@ IsLastStep outcome.Stepped x = ⊥
 IsLastStep outcome.Pending x = x ≡ served.Blocked
 IsLastStep (outcome.Need need) x = x ≡ served.Blocked
 IsLastStep (outcome.Refused refusal) x = x ≡ served.Blocked
+IsLastStep outcome.Died x = x ≡ served.Blocked
+IsLastStep (outcome.Settled fate) x = x ≡ served.Blocked
+IsLastStep outcome.Buried x = x ≡ served.Blocked
+IsLastStep outcome.Joined x = x ≡ served.Blocked
 IsLastStep outcome.Idle x = x ≡ served.Blocked
 
 -- how one ends that is not started again, by what came of the last need
@@ -90,10 +94,10 @@ module _ {S : Type 0} (system : Ghosts S) where
     pub denied : system.plays last (event.Deny client call why) came t
     pub told : x ≡ after_deny came
 
-  -- A call of a client that has one which waits is blocked, and no event is played; any other is started, and given up where the kernel refuses what it needs.
+  -- A call of a client that is dead, or has one which waits, is blocked, and no event is played; any other is started, and given up where the kernel refuses what it needs.
   abbrev pub IsBegunCall : Bool → ℕ → Call → CallResult → S → S → Type 0
-  IsBegunCall hands client call x s t = ((system.pending s client ≡ true) × (x ≡ served.Blocked) × (t ≡ s))
-      ⊎ ((system.pending s client ≡ false) × (IsReadyCall hands client call (Ok x) s t ⊎ IsDenied hands client call x s t))
+  IsBegunCall hands client call x s t = (((system.lives s client ≢ lives.Alive) ⊎ (system.pending s client ≡ true)) × (x ≡ served.Blocked) × (t ≡ s))
+      ⊎ ((system.lives s client ≡ lives.Alive) × (system.pending s client ≡ false) × (IsReadyCall hands client call (Ok x) s t ⊎ IsDenied hands client call x s t))
 
   -- So it is, and then carried on, if its record is begun.
   abbrev pub IsServedCall : Bool → ℕ → Call → CallResult → S → S → Type 0

@@ -47,6 +47,10 @@ after_step outcome.Stepped = Some served.Pending
 after_step outcome.Pending = None
 after_step (outcome.Need need) = None
 after_step (outcome.Refused refusal) = None
+after_step outcome.Died = None
+after_step (outcome.Settled fate) = None
+after_step outcome.Buried = None
+after_step outcome.Joined = None
 after_step outcome.Idle = None
 
 -- the outcome of the start of a call: it is answered, begun, in vain, or lacks something
@@ -56,6 +60,10 @@ after_start outcome.Pending = Ok served.Pending
 after_start (outcome.Need need) = Err need
 after_start outcome.Stepped = Ok served.Blocked
 after_start (outcome.Refused refusal) = Ok served.Blocked
+after_start outcome.Died = Ok served.Blocked
+after_start (outcome.Settled fate) = Ok served.Blocked
+after_start outcome.Buried = Ok served.Blocked
+after_start outcome.Joined = Ok served.Blocked
 after_start outcome.Idle = Ok served.Blocked
 
 -- the outcome of giving a call up
@@ -65,4 +73,8 @@ after_deny outcome.Pending = served.Blocked
 after_deny (outcome.Need need) = served.Blocked
 after_deny outcome.Stepped = served.Blocked
 after_deny (outcome.Refused refusal) = served.Blocked
+after_deny outcome.Died = served.Blocked
+after_deny (outcome.Settled fate) = served.Blocked
+after_deny outcome.Buried = served.Blocked
+after_deny outcome.Joined = served.Blocked
 after_deny outcome.Idle = served.Blocked

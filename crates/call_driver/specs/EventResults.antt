@@ -15,6 +15,10 @@ after_event outcome.Pending = did.Nothing
 after_event (outcome.Need need) = did.Nothing
 after_event outcome.Stepped = did.Done
 after_event (outcome.Refused refusal) = did.Refused refusal
+after_event outcome.Died = did.Nothing
+after_event (outcome.Settled fate) = did.Nothing
+after_event outcome.Buried = did.Nothing
+after_event outcome.Joined = did.Nothing
 after_event outcome.Idle = did.Nothing
 
 -- An event came to this, and left this system.

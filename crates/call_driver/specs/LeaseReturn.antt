@@ -1,11 +1,9 @@
 -- Other clients give back what a call needs.
-use Rattle.std.specs.Prelude.{◌≡◌, ◌≢◌, ◌⊎◌, ◌<◌, ℕ, zero, suc, Bool, true, false}
+use Rattle.std.specs.Prelude.{◌≡◌, ◌≢◌, ◌⊎◌, ◌<◌, ℕ, zero, suc, true, false}
 use Rattle.interleavings.specs.lease_manager.declared.layout.TheConstants.{CLIENTS}
-use Rattle.interleavings.specs.lease_manager.declared.view.LeaseMode.{LeaseMode}
 use Rattle.interleavings.specs.lease_manager.declared.view.LeaseMode.TheVariants.{Free}
-use Rattle.interleavings.specs.event_steps.declared.event.Event.{Event}
+use Rattle.interleavings.specs.libfs.declared.life.Life.TheVariants as lives
 use Rattle.interleavings.specs.event_steps.declared.event.Event.TheVariants as event
-use Rattle.interleavings.specs.event_steps.declared.outcome.Outcome.{Outcome}
 use Rattle.interleavings.specs.event_steps.declared.outcome.Refusal.{Refusal}
 use Rattle.interleavings.specs.event_steps.declared.outcome.Refusal.TheVariants as refusals
 use Rattle.call_driver.specs.EventResults.{CameTo, IsRefusedIn}
@@ -29,6 +27,7 @@ without_digest refusals.NoInode = turns.Blocked
 without_digest refusals.KernelFailed = turns.Blocked
 without_digest refusals.InUse = turns.Blocked
 without_digest refusals.Memory = turns.NoMemory
+without_digest (refusals.NotDigested count) = turns.Blocked
 
 -- what becomes of one that wants an inode back, which was given or not
 abbrev pub after_give : EventResult → NeedResult
@@ -45,16 +44,16 @@ module _ {S : Type 0} (system : Ghosts S) where
     pub given : CameTo system.plays (event.Give other inode) came between t
     pub told : turn ≡ after_give came
 
-  -- it has a call that waits, or its device has failed: no event is played
+  -- it is dead, it has a call that waits, or its device has failed: no event is played
   abbrev pub IsInTheWay : ℕ → NeedResult → S → S → Type 0
-  IsInTheWay other turn s t = ((system.pending s other ≡ true) ⊎ (system.failed s other ≡ true)) × (turn ≡ turns.Blocked) × (t ≡ s)
+  IsInTheWay other turn s t = ((system.lives s other ≢ lives.Alive) ⊎ ((system.pending s other ≡ true) ⊎ (system.failed s other ≡ true))) × (turn ≡ turns.Blocked) × (t ≡ s)
 
   -- its digest is refused
   abbrev pub IsUndigested : ℕ → NeedResult → S → S → Type 0
   IsUndigested other turn s t = (why : Refusal) × IsRefusedIn system.plays (IsDigesting other) why s t × (turn ≡ without_digest why)
 
   abbrev pub HandsOver : ℕ → ℕ → NeedResult → S → S → Type 0
-  HandsOver other inode turn s t = IsInTheWay other turn s t ⊎ ((system.pending s other ≡ false) × (system.failed s other ≡ false) × (IsUndigested other turn s t ⊎ Yields other inode turn s t))
+  HandsOver other inode turn s t = IsInTheWay other turn s t ⊎ ((system.lives s other ≡ lives.Alive) × (system.pending s other ≡ false) × (system.failed s other ≡ false) × (IsUndigested other turn s t ⊎ Yields other inode turn s t))
 
   -- One that does not hold it, or is the client itself, has nothing to do.
   abbrev pub GivesWay : ℕ → ℕ → ℕ → NeedResult → S → S → Type 0

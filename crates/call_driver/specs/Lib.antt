@@ -1,3 +1,4 @@
+pub mod Burials
 pub mod EventResults
 pub mod Digests
 pub mod LeaseReturn
@@ -14,6 +15,7 @@ pub use Rattle.interleavings.specs.event_lists
 pub use Rattle.interleavings.specs.event_steps
 pub use Rattle.interleavings.specs.kernel_fs
 pub use Rattle.interleavings.specs.layout
+pub use Rattle.interleavings.specs.libfs
 pub use Rattle.interleavings.specs.record_validation
 pub use Rattle.interleavings.specs.shared_area
 pub use Rattle.interleavings.specs.system_laws

@@ -8,7 +8,6 @@ use Rattle.interleavings.specs.lease_manager.declared.view.LeaseMode.TheVariants
 use Rattle.interleavings.specs.libfs.declared.denial.Denied.TheVariants as denied
 use Rattle.interleavings.specs.event_steps.declared.event.Event.{Event}
 use Rattle.interleavings.specs.event_steps.declared.event.Event.TheVariants as event
-use Rattle.interleavings.specs.event_steps.declared.outcome.Outcome.{Outcome}
 use Rattle.interleavings.specs.event_steps.declared.outcome.Refusal.{Refusal}
 use Rattle.interleavings.specs.event_steps.declared.outcome.Refusal.TheVariants as refusals
 use Rattle.call_driver.specs.EventResults.{CameTo}
@@ -32,6 +31,7 @@ after_refusal refusals.NoInode = turns.Denied denied.NoInode
 after_refusal refusals.KernelFailed = turns.Denied denied.KernelFailed
 after_refusal refusals.InUse = turns.Blocked
 after_refusal refusals.Memory = turns.Denied denied.Memory
+after_refusal (refusals.NotDigested count) = turns.Blocked
 
 abbrev pub after_asking : EventResult → NeedResult
 after_asking did.Done = turns.Again

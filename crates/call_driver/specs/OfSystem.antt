@@ -1,8 +1,9 @@
 -- A system in memory, as one that plays events.
 use Rattle.std.specs.Prelude.{◌≡◌, ℕ, Bool, false}
 use Rattle.tier_device.specs.declared.media.Media.{Ghosts}
-use Rattle.tier_device.specs.declared.media.Tier.{Tier}
 use Rattle.interleavings.specs.libfs.View.{is_pending}
+use Rattle.interleavings.specs.libfs.declared.life.Life.{Life}
+use Rattle.interleavings.specs.libfs.declared.life.Life.TheVariants as lives
 use Rattle.interleavings.specs.event_steps.Effects.{Carries, Plays}
 use Rattle.interleavings.specs.event_steps.Turns.{CanPlay}
 use Rattle.interleavings.specs.event_steps.View.{SystemView, undigested_on}
@@ -25,3 +26,7 @@ failed_in w client = at_client w client false (λ s. s.client.log.failed)
 -- how many records of a client are not digested
 abbrev pub undigested_in : {M : Type 0} → Ghosts M → SystemView M → ℕ → ℕ
 undigested_in device w client = at_client w client 0 (undigested_on device)
+
+-- how far a client's life has come
+abbrev pub life_in : {M : Type 0} → SystemView M → ℕ → Life
+life_in w client = at_client w client lives.Alive (λ s. s.life)

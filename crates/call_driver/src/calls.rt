@@ -1,12 +1,14 @@
 // A call, from its start to its answer.
-ghost use Rattle.std.specs.Prelude.{◌≡◌, ◌⊎◌, true, Ok};
+ghost use Rattle.std.specs.Prelude.{◌≡◌, ◌≢◌, ◌⊎◌, true, Ok};
 ghost use Rattle.posix_calls.specs.declared.call.Call.{Call};
 ghost use Rattle.posix_calls.specs.declared.call.Reply.{Reply};
 ghost use Rattle.interleavings.specs.event_steps.declared.event.Event.TheVariants as kinds;
+ghost use Rattle.interleavings.specs.libfs.declared.life.Life.TheVariants as lives;
 ghost use Rattle.call_driver.specs.Runs.{Leads, IsLast};
 ghost use Rattle.call_driver.specs.Calls.{IsBegunCall, IsCarriedOn, IsServedCall, IsReadyCall};
 ghost use Rattle.call_driver.specs.EventOwner.{IsOfClient, IsServing, IsAsking};
 
+use crate::burials::is_dead;
 use crate::call_result::{CallResult, deny, start, step_call};
 use crate::events::Events;
 use crate::needs::{NeedResult, serve_need};
@@ -24,7 +26,7 @@ const STEPS: u32 = 4;
 
 /// Serves a call until it is answered. Where it does not let others hand over, a lease that another client holds blocks it.
 ///
-/// A client that has a call which waits for its answer is blocked, and no event is played. An answer is that of the last event.
+/// A client that has a call which waits for its answer is blocked, and no event is played; so is one that is dead. An answer is that of the last event.
 pub fn serve_call<E: Events>(
     events: &mut E,
     client: u32,
@@ -32,6 +34,7 @@ pub fn serve_call<E: Events>(
     hands_over: bool,
 ) -> CallResult
     ensures waits { E.pending events.old client ≡ true → (result ≡ CallResult.Blocked) × (events.new ≡ events.old) }
+    ensures dead { E.lives events.old client ≢ lives.Alive → (result ≡ CallResult.Blocked) × (events.new ≡ events.old) }
     ensures served { IsServedCall E.Events hands_over client call result events.old events.new }
     ensures events { Leads E.plays (IsServing hands_over client) events.old events.new }
     ensures answered { (reply : Reply) → result ≡ CallResult.Reply reply → IsLast E.plays (λ e. IsAsking client call e ⊎ (e ≡ kinds.Step client)) reply events.new }
@@ -42,7 +45,7 @@ pub fn serve_call<E: Events>(
     }
 }
 
-/// Serves the needs of a call until it is answered or its record is begun. A client that has a call which waits for its answer is blocked, and no event is played.
+/// Serves the needs of a call until it is answered or its record is begun. A client that has a call which waits for its answer is blocked, and no event is played; so is one that is dead.
 pub fn begin_call<E: Events>(
     events: &mut E,
     client: u32,
@@ -50,11 +53,12 @@ pub fn begin_call<E: Events>(
     hands_over: bool,
 ) -> CallResult
     ensures waits { E.pending events.old client ≡ true → (result ≡ CallResult.Blocked) × (events.new ≡ events.old) }
+    ensures dead { E.lives events.old client ≢ lives.Alive → (result ≡ CallResult.Blocked) × (events.new ≡ events.old) }
     ensures begun { IsBegunCall E.Events hands_over client call result events.old events.new }
     ensures events { Leads E.plays (IsServing hands_over client) events.old events.new }
     ensures answered { (reply : Reply) → result ≡ CallResult.Reply reply → IsLast E.plays (IsAsking client call) reply events.new }
 {
-    if events.is_pending(client) {
+    if is_dead(events, client) || events.is_pending(client) {
         return CallResult::Blocked;
     }
     let event = Event::Start { client, call };

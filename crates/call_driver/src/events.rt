@@ -2,9 +2,11 @@ ghost use Rattle.std.specs.Prelude.{◌≡◌, ℕ, Bool};
 ghost use Rattle.interleavings.specs.event_steps.declared.event.Event.{Event};
 ghost use Rattle.interleavings.specs.event_steps.declared.outcome.Outcome.{Outcome};
 ghost use Rattle.interleavings.specs.lease_manager.declared.view.LeaseMode.{LeaseMode};
+ghost use Rattle.interleavings.specs.libfs.declared.life.Life.{Life};
 
 use interleavings::in_event_steps::{Event, Outcome};
 use interleavings::in_lease_manager::LeaseMode;
+use interleavings::in_libfs::Life;
 
 /// A running system, one event after the other. Clients are numbered from 1 to 8.
 pub trait Events {
@@ -22,6 +24,9 @@ pub trait Events {
 
     /// How many records of a client are not digested.
     ghost undigested_count: { Self → ℕ → ℕ };
+
+    /// How far a client's life has come.
+    ghost lives: { Self → ℕ → Life };
 
     /// Carries out an event.
     fn play(&mut self, event: &Event) -> Outcome
@@ -42,4 +47,8 @@ pub trait Events {
     /// How many records of a client are not digested.
     fn undigested(&self, client: u32) -> usize
         ensures { result ≡ undigested_count self.now client };
+
+    /// How far a client's life has come; alive of a number outside 1 to 8.
+    fn life(&self, client: u32) -> Life
+        ensures { result ≡ lives self.now client };
 }

@@ -7,6 +7,7 @@ ghost use Rattle.call_driver.specs.LeaseReturn.{GivesWay, HandsOver, OthersHandO
 ghost use Rattle.call_driver.specs.Runs.{Leads};
 ghost use Rattle.call_driver.specs.EventOwner.{IsHandingOver};
 
+use crate::burials::is_dead;
 use crate::digests::digest_all;
 use crate::event_result::{EventResult, carry_out};
 use crate::events::Events;
@@ -14,7 +15,7 @@ use crate::needs::NeedResult;
 use interleavings::in_event_steps::{Event, Refusal};
 use interleavings::in_lease_manager::{CLIENTS, LeaseMode};
 
-/// Each other client that holds an inode, rising, digests all that it logged and gives the inode back. One whose call is pending, or whose device has failed, is in the way.
+/// Each other client that holds an inode, rising, digests all that it logged and gives the inode back. One that is dead, whose call is pending, or whose device has failed, is in the way.
 pub fn others_hand_over<E: Events>(events: &mut E, client: u32, inode: u32) -> NeedResult
     ensures handed { OthersHandOver E.Events client inode result events.old events.new }
     ensures events { Leads E.plays (IsHandingOver inode) events.old events.new }
@@ -43,7 +44,7 @@ fn hand_over<E: Events>(events: &mut E, client: u32, inode: u32) -> NeedResult
     ensures handed { HandsOver E.Events client inode result events.old events.new }
     ensures events { Leads E.plays (IsHandingOver inode) events.old events.new }
 {
-    if events.is_pending(client) || events.has_failed(client) {
+    if is_dead(events, client) || events.is_pending(client) || events.has_failed(client) {
         return NeedResult::Blocked;
     }
     match digest_all(events, client) {

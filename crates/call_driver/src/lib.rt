@@ -1,6 +1,7 @@
 //! What a served call does next: which event follows which outcome, until the call is answered. Written once, over a trait of one event, for whatever plays events.
 #![tactic(auto)]
 
+mod burials;
 mod call_result;
 mod calls;
 mod digests;
@@ -11,6 +12,7 @@ mod needs;
 mod system;
 mod world_events;
 
+pub use burials::{BuryResult, bury_client, is_dead};
 pub use call_result::{CallResult, step_call};
 pub use calls::{begin_call, serve_call};
 pub use digests::{clear_client, digest_all, wipe_all};
@@ -49,6 +51,11 @@ pub mod in_layout {
 /// Of `lease_manager`, what the crates above name.
 pub mod in_lease_manager {
     pub use interleavings::in_lease_manager::LeaseMode;
+}
+
+/// Of `libfs`, what the crates above name.
+pub mod in_libfs {
+    pub use interleavings::in_libfs::{Found, Life};
 }
 
 /// Of `record_validation`, what the crates above name.

@@ -2,11 +2,12 @@
 use crate::events::Events;
 use interleavings::in_event_steps::{Event, Outcome, System};
 use interleavings::in_lease_manager::LeaseMode;
+use interleavings::in_libfs::Life;
 use interleavings::lease_in;
 use tier_device::Media;
 
 impl<M: Media + Drop> Events for System<M> {
-    ghost use Rattle.call_driver.specs.OfSystem.{failed_in, plays_in, undigested_in, waits_in};
+    ghost use Rattle.call_driver.specs.OfSystem.{failed_in, life_in, plays_in, undigested_in, waits_in};
     ghost use Rattle.interleavings.specs.Leases.{lease_in};
 
     ghost plays = { plays_in M.Media };
@@ -18,6 +19,8 @@ impl<M: Media + Drop> Events for System<M> {
     ghost failed = { failed_in };
 
     ghost undigested_count = { undigested_in M.Media };
+
+    ghost lives = { life_in };
 
     fn play(&mut self, event: &Event) -> Outcome {
         System::play(self, event)
@@ -43,5 +46,9 @@ impl<M: Media + Drop> Events for System<M> {
 
     fn undigested(&self, client: u32) -> usize {
         System::undigested(self, client)
+    }
+
+    fn life(&self, client: u32) -> Life {
+        System::life(self, client)
     }
 }

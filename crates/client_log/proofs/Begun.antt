@@ -1,5 +1,5 @@
 -- The region that is written, while a record is begun in it.
-use Rattle.std.proofs.Common.{◌≡◌, ◌≢◌, ◌<◌, ◌+◌, inl, inr, ℕ, Bool, true, false, cond, List, [], ◌∷◌, ◌++◌, take, refl, sym, ◌∙◌, ap, subst}
+use Rattle.std.proofs.Common.{◌≡◌, ◌≢◌, ◌⊎◌, ◌<◌, ◌+◌, inl, inr, ℕ, Bool, true, false, cond, List, [], ◌∷◌, ◌++◌, take, refl, sym, ◌∙◌, ap, subst}
 use Rattle.std.specs.Prelude.{Ok, Err, IfSome, Option, Some, None, is_some, length}
 use Rattle.std.proofs.lemmas.Bool.{cases_Bool, cond-true, true≢false}
 use Rattle.tier_device.specs.declared.media.Media.{Ghosts}
@@ -20,7 +20,7 @@ use Rattle.client_log.specs.Regions.{IsWritten, is_pending}
 use Rattle.client_log.specs.Turns.{Turn, place_of, record_appended, turn_of}
 use Rattle.client_log.specs.View.{LogView}
 use Rattle.client_log.proofs.Sound.{IsSoundLog, if_some}
-use Rattle.client_log.proofs.Within.{one_more_within, within_same}
+use Rattle.client_log.proofs.Within.{less_within, one_more_within, within_same}
 
 pub not_refused : {A E : Type 0} (x : A) (e : E) → Ok x ≡ Err e → ⊥
 not_refused x e is = cc
@@ -60,6 +60,20 @@ module _ {M : Type 0} (device : Ghosts M) where
     where
       rests_not : stages.Failed ≡ stages.Resting → ⊥
       rests_not e = cc
+
+  -- its append was settled: the record is there, or not
+  pub settled_written : (failed : Bool) (g : ℕ) (old new : RegionView M) → IsWritten device failed g old → new.stage ≡ stages.Resting → new.begun ≡ None → header_of device new ≡ header_of device old
+      → (records_of device new ≡ with_record (records_of device old) old.begun) ⊎ (records_of device new ≡ records_of device old) → IsWritten device failed g new
+  settled_written failed g old new w to none head which = record {
+    names = ap generation head ∙ w.names;
+    settled = λ wiping. subst IsWiping to wiping;
+    going = λ e. inl to;
+    pending = ap is_some none ∙ sym (ap is_pending to);
+    within = subst (λ (b : Option Record). end_behind (with_record (records_of device new) b) < REGION_SIZE) (sym none) (elim which [
+      | inl more ↦ subst (λ (l : List Record). end_behind l < REGION_SIZE) (sym more) w.within
+      | inr same ↦ subst (λ (l : List Record). end_behind l < REGION_SIZE) (sym same) (less_within (records_of device old) old.begun w.within)
+    ]);
+  }
 
   -- a record is begun that fits
   pub begun_written : (failed : Bool) (g : ℕ) (old new : RegionView M) (r : Record) → IsWritten device failed g old → new.media ≡ old.media → new.end ≡ old.end → new.stage ≡ stages.Begun → new.begun ≡ Some r

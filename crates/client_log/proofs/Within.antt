@@ -1,6 +1,6 @@
 -- The records of a region stand within it.
 use Rattle.std.proofs.Common.{◌≡◌, ◌<◌, ◌≤◌, ◌+◌, ◌^◌, ℕ, List, sym, subst, arith}
-use Rattle.std.specs.Prelude.{zero, suc, [], ◌∷◌, ◌++◌, Option, length}
+use Rattle.std.specs.Prelude.{zero, suc, [], ◌∷◌, ◌++◌, Option, Some, None, length}
 use Rattle.tier_device.specs.declared.media.Media.{Ghosts}
 use Rattle.tier_device.specs.declared.media.Tier.{Tier}
 use Rattle.update_log.specs.log_record.declared.format.Record.{Record}
@@ -33,3 +33,8 @@ one_more_within rs r fits = omega (arith, taken_more rs r, not_more (end_behind 
 pub within_same : {M : Type 0} (device : Ghosts M) (old new : RegionView M) → records_of device new ≡ records_of device old → new.begun ≡ old.begun → end_behind (with_record (records_of device old) old.begun) < REGION_SIZE → end_behind (with_record (records_of device new) new.begun) < REGION_SIZE
 within_same device old new same begun within =
     subst (λ (b : Option Record). end_behind (with_record (records_of device new) b) < REGION_SIZE) (sym begun) (subst (λ (l : List Record). end_behind (with_record l old.begun) < REGION_SIZE) (sym same) within)
+
+-- and it has room without the begun one
+pub less_within : (rs : List Record) (o : Option Record) → end_behind (with_record rs o) < REGION_SIZE → end_behind rs < REGION_SIZE
+less_within rs None within = within
+less_within rs (Some r) within = omega (arith, taken_more rs r, within)

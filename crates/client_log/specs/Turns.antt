@@ -63,3 +63,7 @@ record_begun t r = record t { begun = Some r }
 -- and appended
 abbrev pub record_appended : Turn → Record → Turn
 record_appended t r = record t { current = t.current ++ r ∷ []; begun = None }
+
+-- or it goes no further, and is not in the region
+abbrev pub record_given_up : Turn → Turn
+record_given_up t = record t { begun = None }

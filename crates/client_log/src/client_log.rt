@@ -1,4 +1,4 @@
-ghost use Rattle.std.specs.Prelude.{◌≡◌, ◌≢◌, ◌⊎◌, ◌≤◌, ◌<◌, ◌+◌, ◌↔◌, ℕ, List, [], length, Some, None, Ok, Err, true, false, is_some, IfErr, IfOk, IfSome, IsErr, IsErrOf, IsOk, IsSome, IsTrue, OnErr, OnOk, IfNone, OnSome};
+ghost use Rattle.std.specs.Prelude.{◌≡◌, ◌≢◌, ◌⊎◌, ◌≤◌, ◌<◌, ◌+◌, ◌↔◌, ℕ, List, [], length, get_or, Some, None, Ok, Err, true, false, is_some, IfErr, IfOk, IfSome, IsErr, IsErrOf, IsOk, IsSome, IsTrue, OnErr, OnOk, IfNone, OnSome};
 ghost use Rattle.tier_device.specs.declared.media.Tier.TheVariants.{Fast};
 ghost use Rattle.tier_device.specs.Media.{Rose};
 ghost use Rattle.update_log.specs.log_record.Grammar.{IsRecord, record_bytes};
@@ -7,7 +7,7 @@ ghost use Rattle.update_log.specs.RecordCounts.{next_generation};
 ghost use Rattle.update_log.specs.Frames.{end_behind};
 ghost use Rattle.update_log.specs.Stage.{IsUnopened, calls_left, next, progress};
 ghost use Rattle.update_log.specs.View.{RegionView, records_of};
-ghost use Rattle.update_log.specs.declared.format.TheConstants.{REGION_SIZE};
+ghost use Rattle.update_log.specs.declared.format.TheConstants.{OPEN, REGION_SIZE};
 ghost use Rattle.update_log.specs.declared.stage.Progress.TheVariants as appends;
 ghost use Rattle.update_log.specs.declared.stage.Stage.TheVariants as stages;
 ghost use Rattle.update_log.specs.declared.stage.WipeProgress.TheVariants as wipes;
@@ -16,7 +16,7 @@ ghost use Rattle.client_log.specs.Calls.{IsOnlyRead, IsMoved, IsMovedOnce};
 ghost use Rattle.client_log.specs.Counts.{AreLeft, CountOf};
 ghost use Rattle.client_log.specs.Regions.{AreWiped, CountsNothing, IsSealedRegion, IsWiped, in_turn};
 ghost use Rattle.client_log.specs.Steps.{IsOpened, HasRoom, most_of, CanBeSealed, sealed_view, WipesCurrent, WipesOther};
-ghost use Rattle.client_log.specs.Turns.{turn_of, record_begun, record_appended, CanSeal, sealed_turn, Away, Back, taken_back, current_wiped, other_wiped};
+ghost use Rattle.client_log.specs.Turns.{turn_of, record_begun, record_appended, record_given_up, CanSeal, sealed_turn, Away, Back, taken_back, current_wiped, other_wiped};
 ghost use Rattle.client_log.specs.View.{current_records};
 
 use crate::error::LogError;
@@ -185,6 +185,47 @@ impl<M: Media> ClientLog<M> {
         self.current.left_now();
         match stepped {
             Ok(progress) => Ok(progress),
+            Err(_) => {
+                self.failed = true;
+                Err(LogError::DeviceFault)
+            }
+        }
+    }
+
+    /// Makes one device call, a fence, that settles the append which was begun and goes no further, as `Region::settle` does, and answers whether its record is in the region from then
+    /// on. Either way none is begun then. It takes no memory.
+    ///
+    /// Where the device fails, as for `step`, the log has failed, and the record stays begun; a log that has failed before makes no call.
+    pub fn settle(&mut self) -> Result<bool, LogError>
+        requires { IsSome self.old.current.begun }
+
+        // At each moment of the call what counted before it counts, with the begun record or without.
+        ensures any_moment { (regions : ℕ → List ℕ) → AreLeft M.Media self.old self.new regions → CountOf self.old.generation (is_some self.old.other) (current_records M.Media self.old) self.old.current.begun regions }
+
+        // The record is in the region exactly where a read gives its gate open.
+        ensures exact { IfOk result (λ whole. IsTrue whole ↔ (get_or (M.seen self.new.current.media Fast) self.old.current.end 0 ≡ OPEN)) }
+        ensures appended { IfOk result (λ whole. whole ≡ true → IfSome self.old.current.begun (λ r. turn_of M.Media self.new ≡ record_appended (turn_of M.Media self.old) r)) }
+        ensures gone { IfOk result (λ whole. whole ≡ false → turn_of M.Media self.new ≡ record_given_up (turn_of M.Media self.old)) }
+        ensures unanswered { OnErr result (turn_of M.Media self.new ≡ turn_of M.Media self.old) }
+
+        ensures stage { OnOk result (self.new.current.stage ≡ stages.Resting) }
+        ensures stage_failed { self.old.failed ≡ false → OnErr result (self.new.current.stage ≡ stages.Failed) }
+        ensures moved { self.old.failed ≡ false → IsMovedOnce M.Media self.old.current self.new.current result }
+        ensures rest { self.new ≡ record self.old { current = self.new.current; failed = self.new.failed } }
+        ensures sound { OnOk result ((self.old.failed ≡ false) × (self.new.failed ≡ false)) }
+        ensures failed { OnErr result (self.new.failed ≡ true) }
+        ensures only { IfErr result (λ e. e ≡ DeviceFault) }
+        ensures stays_failed { self.old.failed ≡ true → (result ≡ Err DeviceFault) × (self.new ≡ self.old) }
+    {
+        // For the proof: what a stop leaves before the device call, and behind it.
+        self.current.left_now();
+        if self.failed {
+            return Err(LogError::DeviceFault);
+        }
+        let settled = self.current.settle();
+        self.current.left_now();
+        match settled {
+            Ok(whole) => Ok(whole),
             Err(_) => {
                 self.failed = true;
                 Err(LogError::DeviceFault)
@@ -444,6 +485,13 @@ impl<M: Media> ClientLog<M> {
         ensures { IsTrue result ↔ (self.now.other ≡ None) }
     {
         self.other.is_none()
+    }
+
+    /// Whether both regions are here, and each is wiped to its generation.
+    pub fn are_wiped(&self) -> bool
+        ensures { IsTrue result ↔ ((self.now.ready ≡ true) × (self.now.clean ≡ true) × (is_some self.now.other ≡ true)) }
+    {
+        self.ready && self.clean && self.other.is_some()
     }
 
     /// Whether a device has failed.

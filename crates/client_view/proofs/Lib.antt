@@ -5,6 +5,7 @@ pub mod ForgottenBlocks
 pub mod Inodes
 pub mod Joined
 pub mod Known
+mod Nothing
 pub mod Numbers
 pub mod Preparable
 pub mod Put

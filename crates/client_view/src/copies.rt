@@ -6,18 +6,18 @@ ghost use Rattle.client_plan.specs.file_graph.Graph.{is_among};
 ghost use Rattle.client_plan.specs.file_graph.Numbers.{is_inode};
 ghost use Rattle.client_plan.specs.call_effects.Knowledge.{IsForgetful, with_blocks, with_copy};
 ghost use Rattle.posix_calls.specs.Content.{with_length};
-ghost use Rattle.posix_calls.specs.declared.limits.TheConstants.{MAX_DESCRIPTORS};
+ghost use Rattle.posix_calls.specs.declared.limits.TheConstants.{MAX_DESCRIPTORS, MAX_INODE};
 ghost use Rattle.posix_calls.specs.Own.{own_of};
 ghost use Rattle.posix_calls.specs.Tree.{set_own};
 ghost use Rattle.client_view.specs.KnowledgeTables.{copy_at, knows, size_known};
 ghost use Rattle.client_view.specs.BlockPut.{IsBlockLong};
-ghost use Rattle.client_view.specs.KnowledgeChanges.{with_descriptor, without_blocks, without_blocks_at, without_inode, without_granted};
+ghost use Rattle.client_view.specs.KnowledgeChanges.{all_closed, knows_nothing, without_files, with_descriptor, without_blocks, without_blocks_at, without_inode, without_granted};
 ghost use Rattle.client_view.specs.AfterRecord.{without_touched};
 
-use crate::slots::{Slot, forget_slot, size_at, slot_at, unknown_slots};
+use crate::slots::{Slot, forget_slot, forget_slots, size_at, slot_at, unknown_slots};
 use block_cache::{BLOCK_SIZE, Blocks};
 use client_plan::in_file_graph::Effect;
-use posix_calls::{Bytes, Descriptor, OwnDescriptors};
+use posix_calls::{Bytes, Descriptor, MAX_INODE, OwnDescriptors};
 use record_validation::NodeSummary;
 use std::alloc::{AllocError, Global};
 use std::marker::Model;
@@ -157,6 +157,28 @@ impl ClientCopies {
         put_descriptor(&mut self.own, number, what);
     }
 
+    /// All that is open is closed. It takes no memory.
+    pub fn close_all(&mut self)
+        ensures known { knows self.new ≡ all_closed (knows self.old) }
+        ensures rest { self.new ≡ record self.old { own = self.new.own } }
+    {
+        self.own = OwnDescriptors::new();
+    }
+
+    /// Nothing is known any more but the client's number: nothing is open, no node is copied, no block is kept, and no number is granted.
+    /// It takes no memory.
+    pub fn forget_all(&mut self)
+        ensures known { knows self.new ≡ knows_nothing self.old.client }
+        ensures client { self.new.client ≡ self.old.client }
+        ensures numbers { self.new.numbers ≡ [] }
+        ensures order { self.new.blocks ≡ without_files (MAX_INODE + 1) self.old.blocks }
+    {
+        self.own = OwnDescriptors::new();
+        self.numbers.clear();
+        forget_slots(&mut self.copies);
+        drop_files(&mut self.blocks);
+    }
+
     /// The client's number.
     pub fn client(&self) -> u32
         ensures { result ≡ (knows self.now).client }
@@ -202,6 +224,15 @@ pub fn drop_subjects(blocks: &mut Blocks, effect: &Effect)
     blocks.drop_file(first);
     if let Some(other) = second {
         blocks.drop_file(other);
+    }
+}
+
+// The blocks of all files go, inode by inode.
+fn drop_files(blocks: &mut Blocks)
+    ensures { blocks.new ≡ without_files (MAX_INODE + 1) blocks.old }
+{
+    for inode in 0..MAX_INODE + 1 {
+        blocks.drop_file(inode);
     }
 }
 

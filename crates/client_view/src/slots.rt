@@ -54,6 +54,16 @@ pub fn forget_slot(slots: &mut Vec<Slot>, place: usize)
     }
 }
 
+/// Nothing is known of any inode any more.
+pub fn forget_slots(slots: &mut Vec<Slot>)
+    ensures forgotten { (i : ℕ) → copy_at slots.new.items i ≡ None }
+    ensures all { length slots.new.items ≡ length slots.old.items }
+{
+    for place in 0..slots.len() {
+        forget_slot(slots, place);
+    }
+}
+
 /// How many bytes a file has that there is a copy of.
 pub fn size_at(slots: &[Slot], inode: u32) -> Option<u64>
     ensures { result ≡ size_known (copy_at slots.now inode) }

@@ -6,6 +6,7 @@ use Rattle.tier_device.specs.declared.media.Media.{Ghosts}
 use Rattle.libfs.specs.kernel_fs.KernelView.{KernelView}
 use Rattle.libfs.specs.View.{ClientView}
 use Rattle.libfs.specs.declared.denial.Denied.{Denied}
+use Rattle.libfs.specs.declared.life.Life.{Life}
 use Rattle.libfs.specs.declared.denial.Denied.TheVariants as denied
 use Rattle.event_steps.specs.KernelRequests.{HasAsked, IsBooked, IsStopped}
 use Rattle.event_steps.specs.Effects.{Carries}
@@ -28,12 +29,12 @@ on_err (Err why) e p is = p
 pub carried : {Turn Made Same : Type 0} (answer : Result (Unit {0}) Denied) (o : Outcome) → o ≡ request_outcome answer → Turn → Made → Carries Turn Made Same o
 carried answer o told turn made = done o (λ idle. asked_is_done answer (sym told ∙ idle)) turn made
 
-module _ {M : Type 0} (device : Ghosts M) (k k' : KernelView M) (v v' : ClientView M) (away : Option (SealedRegionView M)) (r r' : Refusals) (answer : Result (Unit {0}) Denied) (o : Outcome) where
-  pub asks : o ≡ request_outcome answer → r' ≡ noted_refusals answer r → HasAsked (record { client = v; away = away; refused = r }) answer o (record { client = v'; away = away; refused = r' })
-  asks told note = record { told = told; rest = ap (λ (q : Refusals). record { client = v'; away = away; refused = q }) note }
+module _ {M : Type 0} (device : Ghosts M) (k k' : KernelView M) (v v' : ClientView M) (away : Option (SealedRegionView M)) (life : Life) (r r' : Refusals) (answer : Result (Unit {0}) Denied) (o : Outcome) where
+  pub asks : o ≡ request_outcome answer → r' ≡ noted_refusals answer r → HasAsked (record { client = v; away = away; refused = r; life = life }) answer o (record { client = v'; away = away; refused = r'; life = life })
+  asks told note = record { told = told; rest = ap (λ (q : Refusals). record { client = v'; away = away; refused = q; life = life }) note }
 
   pub booked : o ≡ request_outcome answer → r' ≡ noted_refusals answer r → OnOk answer (k.area.failed ≡ false) → (IsErrOf answer denied.KernelFailed → k.area.failed ≡ true) → (k.area.failed ≡ true → IfErr answer IsStopped) → OnErr answer ((v' ≡ v) × (k' ≡ k)) → k'.area ≡ k.area → k'.opening ≡ k.opening
-      → IsBooked k (record { client = v; away = away; refused = r }) answer o (record { client = v'; away = away; refused = r' }) k'
+      → IsBooked k (record { client = v; away = away; refused = r; life = life }) answer o (record { client = v'; away = away; refused = r'; life = life }) k'
   booked told note going failed stopped refused area opening = record { asks = asks told note; going = going; failed = failed; stopped = stopped; refused = refused; area = area; opening = opening }
 
 abbrev pub refused_for : Denied → Result (Unit {0}) Denied

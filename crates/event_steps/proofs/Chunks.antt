@@ -28,6 +28,7 @@ use Rattle.libfs.specs.lease_manager.Passes.{client_of}
 use Rattle.libfs.specs.RegionSeal.{HasTakenBack, MayTakeBack}
 use Rattle.libfs.specs.SealedRegion.{SealedRegionView, log_of}
 use Rattle.libfs.specs.View.{ClientView}
+use Rattle.libfs.specs.declared.life.Life.{Life}
 use Rattle.event_steps.specs.Regions.{ChunkCame, DigestsNext, IsAccepted, IsAwayRead, IsDigestedOn, IsNotAcceptedFor, IsPutBy, refusal_to_accept, digest_outcome}
 use Rattle.event_steps.specs.Sound.{IsAwayFrom}
 use Rattle.event_steps.specs.declared.outcome.Outcome.{Outcome}
@@ -136,7 +137,7 @@ pub away_some : {M : Type 0} (device : Ghosts M) (v : ClientView M) (a : SealedR
 away_some device v a from = let long = ap (λ (rs : List Record). length rs) from.records in let some = from.some in omega (arith, long, some)
 
 -- A chunk of a region that was just accepted, or was before.
-module _ {M : Type 0} (device : Ghosts M) (k between after : KernelView M) (v : ClientView M) (r : Refusals) (a b e : SealedRegionView M) (o : Outcome) (digested : Bool)
+module _ {M : Type 0} (device : Ghosts M) (k between after : KernelView M) (v : ClientView M) (life : Life) (r : Refusals) (a b e : SealedRegionView M) (o : Outcome) (digested : Bool)
     (from : IsAwayFrom device v a) (has : IsAccepted device k a b between) (rest : e ≡ record b { done = e.done })
     (came : ChunkCame device between (log_of device b) o (log_of device e) after) (told : digested ≡ (e.done == length (records_of device e.region))) where
   still_from : IsStillFrom device v b
@@ -190,8 +191,8 @@ module _ {M : Type 0} (device : Ghosts M) (k between after : KernelView M) (v : 
 
   -- what became of the seat, where the kernel was asked
   asked : (n : ℕ) (answer : Result Digestion (KernelError DigestError)) → o ≡ digest_outcome answer → DigestsNext device between (log_of device b) n answer (log_of device e) after → (w : ClientView M) (left : Option (SealedRegionView M))
-      → IsPutBy (e.done == length (records_of device e.region)) device (record { client = v; away = Some a; refused = r }) e (record { client = w; away = left; refused = r })
-      → IsDigestedOn device k (record { client = v; away = Some a; refused = r }) o (record { client = w; away = left; refused = r }) after
+      → IsPutBy (e.done == length (records_of device e.region)) device (record { client = v; away = Some a; refused = r; life = life }) e (record { client = w; away = left; refused = r; life = life })
+      → IsDigestedOn device k (record { client = v; away = Some a; refused = r; life = life }) o (record { client = w; away = left; refused = r; life = life }) after
   asked n answer is d w left put = record {
     away = a;
     was_away = refl;
@@ -202,7 +203,7 @@ module _ {M : Type 0} (device : Ghosts M) (k between after : KernelView M) (v : 
   unprepared : log_of device e ≡ log_of device b → e ≡ b
   unprepared same = rest ∙ ap (λ (n : ℕ). record b { done = n }) (ap (λ (x : SealedView). x.done) same)
 
-  pub chunk_stays : digested ≡ false → IsDigestedOn device k (record { client = v; away = Some a; refused = r }) o (record { client = v; away = Some e; refused = r }) after
+  pub chunk_stays : digested ≡ false → IsDigestedOn device k (record { client = v; away = Some a; refused = r; life = life }) o (record { client = v; away = Some e; refused = r; life = life }) after
   chunk_stays is =
       let not : (e.done == length (records_of device e.region)) ≡ false = sym told ∙ is in
       elim came [
@@ -213,15 +214,15 @@ module _ {M : Type 0} (device : Ghosts M) (k between after : KernelView M) (v : 
             told = none.0;
             away = b;
             accepted = subst (λ (q : KernelView M). IsAccepted device k a b q) (sym none.2) has;
-            rest = ap (λ (w : SealedRegionView M). record { client = v; away = Some w; refused = r }) (unprepared none.1);
+            rest = ap (λ (w : SealedRegionView M). record { client = v; away = Some w; refused = r; life = life }) (unprepared none.1);
           }));
         }
         | inr out ↦
             asked out.0 out.1 out.2 out.3 v (Some e)
-            (subst (λ t. IsPutBy t device (record { client = v; away = Some a; refused = r }) e (record { client = v; away = Some e; refused = r })) (sym not) refl)
+            (subst (λ t. IsPutBy t device (record { client = v; away = Some a; refused = r; life = life }) e (record { client = v; away = Some e; refused = r; life = life })) (sym not) refl)
       ]
 
-  pub chunk_goes : digested ≡ true → (w : ClientView M) → HasTakenBack device v e w → IsDigestedOn device k (record { client = v; away = Some a; refused = r }) o (record { client = w; away = None; refused = r }) after
+  pub chunk_goes : digested ≡ true → (w : ClientView M) → HasTakenBack device v e w → IsDigestedOn device k (record { client = v; away = Some a; refused = r; life = life }) o (record { client = w; away = None; refused = r; life = life }) after
   chunk_goes is w back =
       let all : (e.done == length (records_of device e.region)) ≡ true = sym told ∙ is in
       elim came [
@@ -231,7 +232,7 @@ module _ {M : Type 0} (device : Ghosts M) (k between after : KernelView M) (v : 
             absurd (omega (arith, some, done)))
         | inr out ↦
             asked out.0 out.1 out.2 out.3 w None
-            (subst (λ t. IsPutBy t device (record { client = v; away = Some a; refused = r }) e (record { client = w; away = None; refused = r })) (sym all) (back, refl))
+            (subst (λ t. IsPutBy t device (record { client = v; away = Some a; refused = r; life = life }) e (record { client = w; away = None; refused = r; life = life })) (sym all) (back, refl))
       ]
 
 -- what the kernel answers a region that it does not accept

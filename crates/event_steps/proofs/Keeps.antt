@@ -1,5 +1,5 @@
 -- What calls of a client leave of its regions.
-use Rattle.std.proofs.Common.{◌≡◌, ◌⊎◌, inl, inr, ℕ, ◌<◌, length, Bool, true, false, List, Option, Some, None, refl, ap, sym, ◌∙◌, subst}
+use Rattle.std.proofs.Common.{◌≡◌, ◌⊎◌, inl, inr, ℕ, ◌<◌, ◌+◌, length, Bool, true, false, List, Option, Some, None, refl, ap, sym, ◌∙◌, subst}
 use Rattle.std.specs.Prelude.{is_some, IfSome}
 use Rattle.std.proofs.lemmas.Bool.{false≢true}
 use Rattle.atomic_table.specs.Seated.{TableId}
@@ -17,6 +17,7 @@ use Rattle.posix_calls.specs.declared.call.Reply.TheVariants as replies
 use Rattle.posix_calls.specs.declared.errno.Errno.TheVariants.{IoError}
 use Rattle.libfs.specs.ClientHoldings.{outcome_for}
 use Rattle.libfs.specs.declared.now.Now.TheVariants as now
+use Rattle.libfs.specs.ClientEnd.{IsEmptied}
 use Rattle.libfs.specs.CallStart.{HasStarted, IsOutOfMemory}
 use Rattle.libfs.specs.CallStep.{HasFailed, HasReplied, IsGoing}
 use Rattle.libfs.specs.View.{ClientView}
@@ -102,3 +103,16 @@ module _ {M : Type 0} where
       | inr out ↦ same_keeps old new out.same
     ]
   ] refl
+
+  -- all leases are given, and all is forgotten
+  pub emptied_keeps : (old new : ClientView M) → IsEmptied old new → Keeps old new
+  emptied_keeps old new is = record {
+    owner = λ t. (is.counts.place t + 1, is.counts.table t);
+    other = ap (λ (v : ClientView M). v.log.other) is.rest;
+    generation = ap (λ (v : ClientView M). v.log.generation) is.rest;
+    sealed = ap (λ (v : ClientView M). v.sealed) is.rest;
+  }
+
+  -- a call is settled
+  pub settled_keeps : (old new : ClientView M) → new.log ≡ record old.log { current = new.log.current; failed = new.log.failed } → new.pass ≡ record old.pass { records = new.pass.records } → new.sealed ≡ old.sealed → Keeps old new
+  settled_keeps old new log leases sealed = of_log old new log (ap (λ (p : PassView). (client_of p, p.table)) leases) sealed

@@ -4,6 +4,7 @@ use Rattle.tier_device.specs.declared.media.Media.{Ghosts}
 use Rattle.libfs.specs.kernel_fs.KernelView.{KernelView}
 use Rattle.event_steps.specs.KernelRequests.{AreFetched, IsFetched, IsGivenBack, IsPinned, IsRefilled, IsUnpinned}
 use Rattle.event_steps.specs.Calls.{IsDenied, IsStarted, IsStepped}
+use Rattle.event_steps.specs.Deaths.{IsBuriedOn, IsDied, IsJoined, IsSettledOn}
 use Rattle.event_steps.specs.Leases.{IsAskedBack, IsGiven, IsLeased, IsRaised}
 use Rattle.event_steps.specs.Media.{IsMovedIn, IsReclaimedIn}
 use Rattle.event_steps.specs.Regions.{IsDigestedOn, IsHandedOver, IsWipedOn}
@@ -34,6 +35,10 @@ Makes device k s (event.WipeStep c) o s' k' = IsWipedOn device s o s' × (k' ≡
 Makes device k s (event.Reclaim i) o s' k' = ⊥
 Makes device k s (event.Migrate i first count to) o s' k' = ⊥
 Makes device k s (event.Deny c call why) o s' k' = IsDenied s why o s' × (k' ≡ k)
+Makes device k s (event.Die c) o s' k' = IsDied s o s' × (k' ≡ k)
+Makes device k s (event.Settle c) o s' k' = IsSettledOn device s o s' × (k' ≡ k)
+Makes device k s (event.Bury c) o s' k' = IsBuriedOn device k s o s' k'
+Makes device k s (event.Join c) o s' k' = IsJoined s o s' × (k' ≡ k)
 
 -- An event of a client leaves all others as they were.
 pub record MakesAt {M : Type 0} (device : Ghosts M) (w : SystemView M) (c : ℕ) (e : Event) (o : Outcome) (new : SystemView M) : Type 0 where

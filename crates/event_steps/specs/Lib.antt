@@ -5,6 +5,7 @@ pub mod Stops
 pub mod Outcomes
 pub mod Turns
 pub mod Calls
+pub mod Deaths
 pub mod Leases
 pub mod KernelRequests
 pub mod Regions

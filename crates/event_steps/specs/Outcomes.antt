@@ -39,6 +39,10 @@ refused_then outcomes.Pending r = r
 refused_then (outcomes.Need need) r = r
 refused_then outcomes.Stepped r = r
 refused_then (outcomes.Refused why) r = r
+refused_then outcomes.Died r = r
+refused_then (outcomes.Settled fate) r = r
+refused_then outcomes.Buried r = r
+refused_then outcomes.Joined r = r
 refused_then outcomes.Idle r = r
 
 abbrev pub noted_refusals : Result (Unit {0}) Denied → Refusals → Refusals
@@ -57,3 +61,4 @@ refusal_number refusals.NoInode = 12
 refusal_number refusals.KernelFailed = 13
 refusal_number refusals.InUse = 14
 refusal_number refusals.Memory = 15
+refusal_number (refusals.NotDigested count) = 16

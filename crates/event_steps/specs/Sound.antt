@@ -7,6 +7,7 @@ use Rattle.libfs.specs.update_log.View.{records_of}
 use Rattle.libfs.specs.lease_manager.Passes.{client_of}
 use Rattle.libfs.specs.SealedRegion.{SealedRegionView}
 use Rattle.libfs.specs.View.{ClientView}
+use Rattle.libfs.specs.declared.life.Life.TheVariants as lives
 use Rattle.event_steps.specs.Refusals.{no_refusals}
 use Rattle.event_steps.specs.View.{SeatView}
 
@@ -50,6 +51,6 @@ pub record AreSeats {M : Type 0} (seats : List (SeatView M)) : Type 0 where
   pub table : TableId
   pub shared : AreOfTable table seats
 
--- a client that has all its regions
+-- a living client that has all its regions
 abbrev pub fresh_seat : {M : Type 0} → ClientView M → SeatView M
-fresh_seat v = record { client = v; away = None; refused = no_refusals }
+fresh_seat v = record { client = v; away = None; refused = no_refusals; life = lives.Alive }

@@ -5,13 +5,15 @@ use Rattle.libfs.specs.client_log.View.{current_records}
 use Rattle.libfs.specs.kernel_fs.KernelView.{KernelView}
 use Rattle.libfs.specs.SealedRegion.{SealedRegionView}
 use Rattle.libfs.specs.View.{ClientView}
+use Rattle.libfs.specs.declared.life.Life.{Life}
 use Rattle.event_steps.specs.declared.refusals.Refusals.{Refusals}
 
--- a client, the region that it sealed and handed over, until it takes that back, and what the kernel refused it since its last reply
+-- a client, the region that it sealed and handed over, until it takes that back, what the kernel refused it since its last reply, and how far its life has come
 pub record SeatView (M : Type 0) : Type 0 where
   pub client : ClientView M
   pub away : Option (SealedRegionView M)
   pub refused : Refusals
+  pub life : Life
 
 -- the kernel, and clients 1 to 8 in their order
 pub record SystemView (M : Type 0) : Type 0 where

@@ -5,16 +5,17 @@ ghost use Rattle.event_steps.specs.View.{done_of, undigested_on};
 
 use crate::refusals::Refusals;
 use libfs::in_log_record::Record;
-use libfs::{Client, SealedRegion};
+use libfs::{Client, Life, SealedRegion};
 use std::marker::Model;
 use tier_device::Media;
 
-/// A client, the region that it sealed and handed over, until it takes that back, and what the kernel refused it since its last reply.
+/// A client, the region that it sealed and handed over, until it takes that back, what the kernel refused it since its last reply, and how far its life has come.
 #[derive(Drop)]
 pub struct ClientSlot<M: Media> {
     pub(crate) client: Client<M>,
     pub(crate) away: Option<SealedRegion<M>>,
     pub(crate) refused: Refusals,
+    pub(crate) life: Life,
 }
 
 impl<M: Media> Model for ClientSlot<M> {
@@ -28,7 +29,7 @@ impl<M: Media> Model for ClientSlot<M> {
 
     ghost coded = { Prim.hlevel (codes, held_code, begun_call.the_row.coded) };
 
-    ghost view = { λ s. record { client = s.client; away = s.away; refused = s.refused } };
+    ghost view = { λ s. record { client = s.client; away = s.away; refused = s.refused; life = s.life } };
 
     ghost invariant = { λ s. IsSeated M.Media s.client s.away };
 }
@@ -48,15 +49,17 @@ impl<M: Media> ClientSlot<M> {
             client,
             away: None,
             refused: Refusals::none(),
+            life: Life::Alive,
         })
     }
 
-    /// The client, and the region that it handed over, if that is not back.
-    pub fn into_parts(self) -> (Client<M>, Option<SealedRegion<M>>)
+    /// The client, the region that it handed over, if that is not back, and how far its life has come.
+    pub fn into_parts(self) -> (Client<M>, Option<SealedRegion<M>>, Life)
         ensures client { result.0 ≡ self.client }
         ensures away { result.1 ≡ self.away }
+        ensures life { result.2 ≡ self.life }
     {
-        (self.client, self.away)
+        (self.client, self.away, self.life)
     }
 
     /// States what a stop leaves of the client's regions now.

@@ -1,8 +1,8 @@
 //! One event.
-ghost use Rattle.std.specs.Prelude.{◌≡◌, ◌≢◌, true, Some, None, IsSome};
+ghost use Rattle.std.specs.Prelude.{◌≡◌, ◌≢◌, ◌↔◌, true, false, Some, None, IsSome, IsTrue};
 ghost use Rattle.event_steps.specs.Effects.{Carries, Makes, MakesAt, MakesOver, Plays};
 ghost use Rattle.event_steps.specs.Sound.{owner_of};
-ghost use Rattle.event_steps.specs.Turns.{CanPlay, HasTurn, IsTurnOf, asks_kernel, whose};
+ghost use Rattle.event_steps.specs.Turns.{CanPlay, HasTurn, HasWork, IsTurnOf, MayPlay, asks_kernel, is_end, whose};
 ghost use Rattle.event_steps.specs.declared.outcome.Outcome.TheVariants as outcomes;
 
 use crate::client_slot::ClientSlot;
@@ -11,6 +11,7 @@ use crate::migrations::{migrate, reclaim};
 use crate::numbers::is_client;
 use crate::outcome::Outcome;
 use crate::system::System;
+use libfs::Life;
 use libfs::in_kernel_fs::Kernel;
 use posix_calls::client_index;
 use std::alloc::Global;
@@ -64,7 +65,7 @@ fn play_over<M: Media>(kernel: &mut Kernel<M>, event: &Event) -> Outcome
     }
 }
 
-// An event in which the client does not ask the kernel, or else one in which it does.
+// An event of a client whose life has come so far, or nothing.
 fn play_in<M: Media + Drop>(
     alloc: Global,
     kernel: &mut Kernel<M>,
@@ -73,6 +74,38 @@ fn play_in<M: Media + Drop>(
 ) -> Outcome
     requires whose { IsSome (whose event.now) }
     ensures carries { Carries (HasTurn M.Media seat.old event.now) (Makes M.Media kernel.old seat.old event.now result seat.new kernel.new) ((seat.new ≡ seat.old) × (kernel.new ≡ kernel.old)) result }
+    ensures owner { owner_of seat.new.client ≡ owner_of seat.old.client }
+{
+    if !may_play(seat.life, event) {
+        return Outcome::Idle;
+    }
+    play_allowed(alloc, kernel, seat, event)
+}
+
+// Whether a client's life has come as far as an event wants.
+fn may_play(life: Life, event: &Event) -> bool
+    ensures { IsTrue result ↔ MayPlay life event.now }
+{
+    match event {
+        Event::Seal { .. } | Event::Digest { .. } | Event::WipeStep { .. } => life != Life::Dead,
+        Event::Settle { .. } => life == Life::Dead,
+        Event::Bury { .. } => life.is_settled(),
+        Event::Join { .. } => life.is_buried(),
+        Event::Reclaim { .. } | Event::Migrate { .. } => false,
+        _ => life == Life::Alive,
+    }
+}
+
+// An event in which the client does not ask the kernel, or else one in which it does.
+fn play_allowed<M: Media + Drop>(
+    alloc: Global,
+    kernel: &mut Kernel<M>,
+    seat: &mut ClientSlot<M>,
+    event: &Event,
+) -> Outcome
+    requires whose { IsSome (whose event.now) }
+    requires may { MayPlay seat.old.life event.now }
+    ensures carries { Carries (HasWork M.Media seat.old event.now) (Makes M.Media kernel.old seat.old event.now result seat.new kernel.new) ((seat.new ≡ seat.old) × (kernel.new ≡ kernel.old)) result }
     ensures owner { owner_of seat.new.client ≡ owner_of seat.old.client }
 {
     match event {
@@ -85,7 +118,25 @@ fn play_in<M: Media + Drop>(
         Event::Seal { .. } => seat.seal(),
         Event::WipeStep { .. } => seat.wipe_step(),
         Event::Deny { call, why, .. } => seat.deny(call, *why),
+        Event::Die { .. } | Event::Settle { .. } | Event::Bury { .. } | Event::Join { .. } =>
+            play_end(kernel, seat, event),
         _ => play_with(alloc, kernel, seat, event),
+    }
+}
+
+// An event of a client's end.
+fn play_end<M: Media>(kernel: &mut Kernel<M>, seat: &mut ClientSlot<M>, event: &Event) -> Outcome
+    requires end { is_end event.now ≡ true }
+    requires may { MayPlay seat.old.life event.now }
+    ensures carries { Carries (HasWork M.Media seat.old event.now) (Makes M.Media kernel.old seat.old event.now result seat.new kernel.new) ((seat.new ≡ seat.old) × (kernel.new ≡ kernel.old)) result }
+    ensures owner { owner_of seat.new.client ≡ owner_of seat.old.client }
+{
+    match event {
+        Event::Die { .. } => seat.die(),
+        Event::Settle { .. } => seat.settle(),
+        Event::Bury { .. } => seat.bury(kernel),
+        Event::Join { .. } => seat.join(),
+        _ => unreachable!(),
     }
 }
 
@@ -97,7 +148,9 @@ fn play_with<M: Media + Drop>(
     event: &Event,
 ) -> Outcome
     requires asks { asks_kernel event.now ≡ true }
-    ensures carries { Carries (HasTurn M.Media seat.old event.now) (Makes M.Media kernel.old seat.old event.now result seat.new kernel.new) ((seat.new ≡ seat.old) × (kernel.new ≡ kernel.old)) result }
+    requires goes_on { is_end event.now ≡ false }
+    requires may { MayPlay seat.old.life event.now }
+    ensures carries { Carries (HasWork M.Media seat.old event.now) (Makes M.Media kernel.old seat.old event.now result seat.new kernel.new) ((seat.new ≡ seat.old) × (kernel.new ≡ kernel.old)) result }
     ensures owner { owner_of seat.new.client ≡ owner_of seat.old.client }
 {
     match event {
@@ -138,6 +191,10 @@ fn client_of(event: &Event) -> Option<u32>
         Event::Digest { client } => Some(*client),
         Event::WipeStep { client } => Some(*client),
         Event::Deny { client, .. } => Some(*client),
+        Event::Die { client } => Some(*client),
+        Event::Settle { client } => Some(*client),
+        Event::Bury { client } => Some(*client),
+        Event::Join { client } => Some(*client),
         Event::Reclaim { .. } => None,
         Event::Migrate { .. } => None,
     }

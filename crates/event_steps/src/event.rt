@@ -98,4 +98,20 @@ pub enum Event {
         call: Call,
         why: Denied,
     },
+    /// A client dies: it asks no call any more, and all that it held stays.
+    Die {
+        client: u32,
+    },
+    /// One fence finds what became of a dead client's call, and all that it had open is closed.
+    Settle {
+        client: u32,
+    },
+    /// The units, numbers and pins of a settled client leave the kernel's book, and its leases are given back.
+    Bury {
+        client: u32,
+    },
+    /// A new client takes the seat of one that is buried, with both regions.
+    Join {
+        client: u32,
+    },
 }

@@ -6,6 +6,7 @@
 
 mod calls;
 mod client_slot;
+mod deaths;
 mod digests;
 mod dispatch;
 mod event;
@@ -61,7 +62,9 @@ pub mod in_lease_manager {
 
 /// Of `libfs`, what the crates above name.
 pub mod in_libfs {
-    pub use libfs::{Client, Denied, answered_start_is_a_step, begun_record_is_a_step};
+    pub use libfs::{
+        Client, Denied, Found, Life, answered_start_is_a_step, begun_record_is_a_step,
+    };
 }
 
 /// Of `log_record`, what the crates above name.

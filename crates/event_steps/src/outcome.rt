@@ -1,6 +1,7 @@
 ghost use Rattle.std.specs.Prelude.{◌≡◌};
 ghost use Rattle.event_steps.specs.Outcomes.{refusal_number};
 
+use libfs::Fate;
 use libfs::in_client_plan::Need;
 use posix_calls::Reply;
 
@@ -27,6 +28,8 @@ pub enum Refusal {
     InUse,
     /// There was no memory.
     Memory,
+    /// So many records of the client are undigested, or in a region that is not back.
+    NotDigested { count: usize },
 }
 
 impl Refusal {
@@ -45,6 +48,7 @@ impl Refusal {
             Refusal::KernelFailed => 13,
             Refusal::InUse => 14,
             Refusal::Memory => 15,
+            Refusal::NotDigested { .. } => 16,
         }
     }
 }
@@ -62,6 +66,14 @@ pub enum Outcome {
     Stepped,
     /// It was refused.
     Refused { refusal: Refusal },
+    /// The client is dead.
+    Died,
+    /// The dead client's call is settled: this is what became of it.
+    Settled { fate: Fate },
+    /// The client is buried.
+    Buried,
+    /// A new client has the seat.
+    Joined,
     /// There was nothing to do.
     Idle,
 }

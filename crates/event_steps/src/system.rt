@@ -14,17 +14,18 @@ ghost use Rattle.posix_calls.specs.declared.limits.TheConstants.{UNIT_BYTES};
 ghost use Rattle.libfs.specs.lease_manager.Parts.{AreCompatible};
 ghost use Rattle.libfs.specs.lease_manager.Words.{IsClient};
 ghost use Rattle.libfs.specs.migrator.RunChoice.{IsPicked, MayBeMoved};
+ghost use Rattle.libfs.specs.declared.life.Life.TheVariants as lives;
 ghost use Rattle.event_steps.specs.Sound.{AreFrom, AreOfTable, AreSeats, number_of};
 ghost use Rattle.event_steps.specs.Stops.{SeatLeaves};
 ghost use Rattle.event_steps.specs.View.{HasSeat, SeatView, done_of, seat_of, undigested_on};
 
 use crate::client_slot::ClientSlot;
 use crate::numbers::{CLIENTS, is_client};
-use libfs::Client;
 use libfs::in_area_reader::AreaError;
 use libfs::in_kernel_fs::{Fetched, FetchedBytes, Kernel, KernelError};
 use libfs::in_log_record::Record;
 use libfs::in_migrator::FileRun;
+use libfs::{Client, Life};
 use posix_calls::client_index;
 use std::alloc::Global;
 use std::marker::Model;
@@ -65,6 +66,17 @@ impl<M: Media> System<M> {
         match self.seat(number) {
             Some(seat) => Some(&seat.client),
             None => None,
+        }
+    }
+
+    /// How far a client's life has come; alive of a number outside 1 to 8.
+    pub fn life(&self, number: u32) -> Life
+        ensures there { IsClient number → HasSeat self.now number (λ s. result ≡ s.life) }
+        ensures none { (IsClient number → ⊥) → result ≡ lives.Alive }
+    {
+        match self.seat(number) {
+            Some(seat) => seat.life,
+            None => Life::Alive,
         }
     }
 

@@ -33,3 +33,7 @@ one_moves (event.WipeStep c) old new m = region_moves c old new m
 one_moves (event.Reclaim i) old new m = record { part = 0; only = m }
 one_moves (event.Migrate i first count to) old new m = record { part = 0; only = m }
 one_moves (event.Deny c call why) old new m = none_moves old new m
+one_moves (event.Die c) old new m = none_moves old new m
+one_moves (event.Settle c) old new m = region_moves c old new m
+one_moves (event.Bury c) old new m = none_moves old new m
+one_moves (event.Join c) old new m = none_moves old new m

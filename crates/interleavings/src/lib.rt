@@ -63,7 +63,7 @@ pub mod in_lease_manager {
 
 /// Of `libfs`, what the crates above name.
 pub mod in_libfs {
-    pub use system_laws::in_libfs::{Client, Denied};
+    pub use system_laws::in_libfs::{Client, Denied, Found, Life};
 }
 
 /// Of `record_validation`, what the crates above name.

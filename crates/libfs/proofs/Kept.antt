@@ -10,6 +10,7 @@ use Rattle.block_cache.specs.CacheList.{Block}
 use Rattle.lease_manager.specs.log_record.declared.format.Record.{Record}
 use Rattle.client_log.specs.update_log.Frames.{with_record}
 use Rattle.lease_manager.specs.Words.{HasWord}
+use Rattle.lease_manager.specs.LeaseCounts.{CountsAs}
 use Rattle.lease_manager.specs.Passes.{PassView, client_of, records_of, without_lease}
 use Rattle.client_log.specs.Turns.{Turn, turn_of}
 use Rattle.client_log.specs.View.{LogView, current_records}
@@ -17,7 +18,7 @@ use Rattle.client_view.specs.KnowledgeTables.{Held, copy_at, knows}
 use Rattle.client_view.specs.Preparation.{IsPreparedFor}
 use Rattle.libfs.specs.declared.begun_record.Begun.{Begun}
 use Rattle.libfs.specs.View.{begun_record}
-use Rattle.lease_manager.specs.RecordCounts.{Counts, HasNoted, HasCleaned, is_touched, one_if, touch_count}
+use Rattle.lease_manager.specs.RecordCounts.{Counts, HasNoted, HasUncounted, HasCleaned, is_touched, one_if, touch_count}
 use Rattle.client_view.specs.RecordLists.{Kept}
 use Rattle.libfs.specs.NewClient.{IsBlank}
 use Rattle.libfs.specs.OwnCopies.{AreCopied, number_made}
@@ -68,6 +69,11 @@ still_prepared k rs c p = record { spelled = p.spelled; made = p.made; number = 
 sum_moves : (new old more : ℕ) → new + more ≡ old → (rest : ℕ) → old ≡ more + rest → new ≡ rest
 sum_moves new old more is rest all = omega arith
 
+-- with one record more there is one
+pub never_none : (rs : List Record) (r : Record) → rs ++ r ∷ [] ≡ [] → ⊥
+never_none [] r is = cc
+never_none (x ∷ rs) r is = cc
+
 -- ---- copies of what records touch
 
 -- a copy stays one where a node is made
@@ -117,6 +123,7 @@ module _ {M : Type 0} (device : Ghosts M) (leases : TableId) where
     room = λ some. absurd (false≢true some);
     counts = λ i w. uncounted i w ∙ sym (ap (λ (l : List Record). touch_count l i) nothing);
     copied = none_touched (kept.away ++ kept.current) None (knows copies) nothing;
+    copied_before = none_touched (kept.away ++ kept.current) None (knows copies) nothing;
     failed = λ is. absurd (false≢true is);
   }
     where
@@ -136,6 +143,7 @@ module _ {M : Type 0} (device : Ghosts M) (leases : TableId) where
       room = s.room;
       counts = λ i w. ap (λ (l : List ℕ). records_of (record pass { records = l }) i) records ∙ s.counts i w;
       copied = s.copied;
+      copied_before = s.copied_before;
       failed = s.failed;
     }
 
@@ -163,6 +171,7 @@ module _ {M : Type 0} (device : Ghosts M) (leases : TableId) where
       room = s.room;
       counts = s.counts;
       copied = subst (λ (o : Option Begun). AreCopied (with_record (kept.away ++ kept.current) (begun_record o)) (number_made o) (knows new)) (sym idle) (λ i some. stays i some (idle_copied idle i some));
+      copied_before = λ i some. stays i some (s.copied_before i some);
       failed = s.failed;
     }
       where
@@ -186,6 +195,7 @@ module _ {M : Type 0} (device : Ghosts M) (leases : TableId) where
           room = s.room;
           counts = s.counts;
           copied = s.copied;
+          copied_before = s.copied_before;
           failed = s.failed;
         })
 
@@ -202,6 +212,7 @@ module _ {M : Type 0} (device : Ghosts M) (leases : TableId) where
           room = s.room;
           counts = s.counts;
           copied = s.copied;
+          copied_before = s.copied_before;
           failed = s.failed;
         })
 
@@ -218,6 +229,7 @@ module _ {M : Type 0} (device : Ghosts M) (leases : TableId) where
       room = s.room;
       counts = s.counts;
       copied = s.copied;
+      copied_before = s.copied_before;
       failed = failed;
     }
 
@@ -252,6 +264,7 @@ module _ {M : Type 0} (device : Ghosts M) (leases : TableId) where
       room = λ some. absurd (false≢true (sym (ap is_some idle) ∙ some));
       counts = λ i w. s.counts i w ∙ sym (ap (λ (k : Kept). touch_count (with_record (k.away ++ k.current) (begun_record begun)) i) same);
       copied = λ i some. s.copied i (subst (λ (k : Kept). 0 < touch_count (with_record (k.away ++ k.current) (begun_record begun)) i) same some);
+      copied_before = λ i some. s.copied_before i (subst (λ (k : Kept). 0 < touch_count (k.away ++ k.current) i) same some);
       failed = s.failed;
     }
 
@@ -270,6 +283,7 @@ module _ {M : Type 0} (device : Ghosts M) (leases : TableId) where
           h.counts i w ∙ ap (λ n. n + one_if (is_touched b.change.logged.effects i)) (idle_counts idle i w)
           ∙ sym (touching_both (more.away ++ more.current) (b.change.logged ∷ []) i ∙ ap (λ n. touch_count (more.away ++ more.current) i + n) (touching_one b.change.logged i) ∙ ap (λ (k : Kept). touch_count (k.away ++ k.current) i + one_if (is_touched b.change.logged.effects i)) same);
       copied = subst (λ (k : Kept). AreCopied ((k.away ++ k.current) ++ b.change.logged ∷ []) b.change.made (knows copies)) (sym same) (more_copied (kept.away ++ kept.current) b.change.logged b.change.made (knows copies) (idle_copied idle) known);
+      copied_before = subst (λ (k : Kept). AreCopied (k.away ++ k.current) None (knows copies)) (sym same) s.copied_before;
       failed = λ is. absurd (idle_unanswered idle is);
     }
 
@@ -286,6 +300,9 @@ module _ {M : Type 0} (device : Ghosts M) (leases : TableId) where
       room = λ some. absurd (false≢true some);
       counts = λ i w. s.counts i w ∙ ap (λ (o : Option Begun). touch_count (with_record (kept.away ++ kept.current) (begun_record o)) i) pending ∙ ap (λ (l : List Record). touch_count l i) (sym all);
       copied = λ i some.
+          subst (λ (k : Knowledge). IsSome (k.copies i)) (sym logged) (logged_some (knows copies) b.change.logged.effects b.change.made b.change.descriptor i
+          (subst (λ (o : Option Begun). AreCopied (with_record (kept.away ++ kept.current) (begun_record o)) (number_made o) (knows copies)) pending s.copied i (subst (λ (l : List Record). 0 < touch_count l i) all some)));
+      copied_before = λ i some.
           subst (λ (k : Knowledge). IsSome (k.copies i)) (sym logged) (logged_some (knows copies) b.change.logged.effects b.change.made b.change.descriptor i
           (subst (λ (o : Option Begun). AreCopied (with_record (kept.away ++ kept.current) (begun_record o)) (number_made o) (knows copies)) pending s.copied i (subst (λ (l : List Record). 0 < touch_count l i) all some)));
       failed = λ is. absurd (false≢true (sym open_yet ∙ is));
@@ -308,6 +325,7 @@ module _ {M : Type 0} (device : Ghosts M) (leases : TableId) where
           idle_counts idle i w ∙ ap (λ (l : List Record). touch_count l i) (sym all)
           ∙ sym (ap (λ (o : Option Record). touch_count (with_record (gone.away ++ gone.current) o) i) (idle_record idle));
       copied = subst (λ (o : Option Begun). AreCopied (with_record (gone.away ++ gone.current) (begun_record o)) (number_made o) (knows copies)) (sym idle) (subst (λ (l : List Record). AreCopied l None (knows copies)) (sym all) (idle_copied idle));
+      copied_before = subst (λ (l : List Record). AreCopied l None (knows copies)) (sym all) s.copied_before;
       failed = λ is. absurd (idle_unanswered idle is);
     }
       where
@@ -333,6 +351,9 @@ module _ {M : Type 0} (device : Ghosts M) (leases : TableId) where
       copied = subst (λ (k : Knowledge). AreCopied (with_record (none.away ++ none.current) (begun_record begun)) (number_made begun) k) (sym is_known)
           (subst (λ (k : Kept). AreCopied (with_record (k.away ++ k.current) (begun_record begun)) (number_made begun) (without_blocks_of (knows copies) kept.away)) (sym is_none)
           (fewer_copied (with_record kept.current (begun_record begun)) (with_record (kept.away ++ kept.current) (begun_record begun)) (number_made begun) (knows copies) (λ i. less (touch_count (with_record (kept.away ++ kept.current) (begun_record begun)) i) (touch_count kept.away i) (touch_count (with_record kept.current (begun_record begun)) i) (parted kept.away kept.current (begun_record begun) i)) s.copied));
+      copied_before = subst (λ (k : Knowledge). AreCopied (none.away ++ none.current) None k) (sym is_known)
+          (subst (λ (k : Kept). AreCopied (k.away ++ k.current) None (without_blocks_of (knows copies) kept.away)) (sym is_none)
+          (fewer_copied kept.current (kept.away ++ kept.current) None (knows copies) (λ i. less (touch_count (kept.away ++ kept.current) i) (touch_count kept.away i) (touch_count kept.current i) (touching_both kept.away kept.current i)) s.copied_before));
       failed = λ is. (fails ∙ (s.failed is).0, (s.failed is).1);
     }
       where
@@ -359,5 +380,46 @@ module _ {M : Type 0} (device : Ghosts M) (leases : TableId) where
           room = is.room;
           counts = λ j w. ap (λ (p : PassView). records_of p j) given ∙ is.counts j w;
           copied = is.copied;
+          copied_before = is.copied_before;
           failed = is.failed;
         }
+
+    -- the begun record is dropped, and nothing is open any more
+    pub sound_dropped : (cleaned : PassView) (new : LogView M) (known : Held) (b : Begun) → begun ≡ Some b → HasUncounted pass b.change.logged.effects cleaned → current_records device new ≡ current_records device log → new.current.begun ≡ None → is_some new.other ≡ is_some log.other
+        → known.client ≡ copies.client → known.copies ≡ copies.copies → IsSound device leases cleaned new known None false kept
+    sound_dropped cleaned new known b pending h records begins other client same = record {
+      table = ap (λ (p : PassView). p.table) h.rest ∙ s.table;
+      number = client ∙ s.number ∙ sym (ap (λ (p : PassView). client_of p) h.rest);
+      written_is = s.written_is ∙ sym records;
+      back = λ here. s.back (sym other ∙ here);
+      begins = sym begins;
+      prepared = none_some _;
+      room = λ some. absurd (false≢true some);
+      counts = λ i w.
+          let fewer : records_of cleaned i + one_if (is_touched b.change.logged.effects i) ≡ records_of pass i = h.counts i w in
+          let all : records_of pass i ≡ touch_count (kept.away ++ kept.current) i + one_if (is_touched b.change.logged.effects i) =
+          s.counts i w ∙ ap (λ (o : Option Begun). touch_count (with_record (kept.away ++ kept.current) (begun_record o)) i) pending
+          ∙ touching_both (kept.away ++ kept.current) (b.change.logged ∷ []) i ∙ ap (λ n. touch_count (kept.away ++ kept.current) i + n) (touching_one b.change.logged i) in
+          omega (arith, fewer, all);
+      copied = λ i some. subst (λ (cs : List (Option (Option NodeView))). IsSome (copy_at cs i)) (sym same) (s.copied_before i some);
+      copied_before = λ i some. subst (λ (cs : List (Option (Option NodeView))). IsSome (copy_at cs i)) (sym same) (s.copied_before i some);
+      failed = λ is. absurd (false≢true is);
+    }
+
+  -- all leases are given and all is forgotten, where none of its records is undigested
+  pub sound_emptied : (pass : PassView) (log : LogView M) (copies : Held) (begun : Option Begun) (answered : Bool) (kept : Kept) → IsSound device leases pass log copies begun answered kept → (given : PassView) (new : Held) → with_record (kept.away ++ kept.current) (begun_record begun) ≡ []
+      → CountsAs pass given → new.client ≡ copies.client → IsSound device leases given log new begun false kept
+  sound_emptied pass log copies (Some b) answered kept s given new none same client = absurd (never_none (kept.away ++ kept.current) b.change.logged none)
+  sound_emptied pass log copies None answered kept s given new none same client = record {
+    table = same.table ∙ s.table;
+    number = client ∙ s.number ∙ sym (ap (λ n. n + 1) same.place);
+    written_is = s.written_is;
+    back = s.back;
+    begins = s.begins;
+    prepared = none_some _;
+    room = λ some. absurd (false≢true some);
+    counts = λ i w. ap (λ (l : List ℕ). records_of (record pass { records = l }) i) same.records ∙ s.counts i w;
+    copied = none_touched (kept.away ++ kept.current) None (knows new) none;
+    copied_before = none_touched (kept.away ++ kept.current) None (knows new) none;
+    failed = λ is. absurd (false≢true is);
+  }

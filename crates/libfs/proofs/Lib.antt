@@ -1,5 +1,6 @@
 pub mod Kept
 mod KeptRecord
+mod ClientEnds
 pub mod Ready
 pub mod LogSteps
 mod SealedRegions

@@ -5,6 +5,9 @@ pub mod OwnCopies
 pub mod Sound
 pub mod CallStart
 pub mod CallStep
+pub mod Lives
+pub mod ClientEnd
+pub mod RemainsView
 pub mod BlockUse
 pub mod LeaseCalls
 pub mod SealedRegion

@@ -1,5 +1,5 @@
 -- What holds of a client between two calls.
-use Rattle.std.specs.Prelude.{◌≡◌, ◌++◌, Bool, true, [], Option, is_some}
+use Rattle.std.specs.Prelude.{◌≡◌, ◌++◌, Bool, true, [], Option, None, is_some}
 use Rattle.std.specs.Option.{ForSome}
 use Rattle.atomic_table.specs.Seated.{TableId}
 use Rattle.tier_device.specs.declared.media.Media.{Ghosts}
@@ -28,5 +28,7 @@ pub record IsSound {M : Type 0} (device : Ghosts M) (leases : TableId) (pass : P
   pub counts : Counts pass (with_record (records.away ++ records.current) (begun_record begun))
   -- each was planned by these copies, and a copy goes only with its lease, which such a record holds
   pub copied : AreCopied (with_record (records.away ++ records.current) (begun_record begun)) (number_made begun) (knows copies)
+  -- and so it is of those that are kept, whatever is begun
+  pub copied_before : AreCopied (records.away ++ records.current) None (knows copies)
   -- only a fault answers a call whose record stays begun
   pub failed : answered ≡ true → (log.failed ≡ true) × (is_some begun ≡ true)

@@ -87,7 +87,7 @@ impl<M: Media> Client<M> {
 
 // The begun record is kept: it counts among the client's, which knows what it left, and its call has this reply. It is put into its callers, so that what is begun is not moved once more.
 #[inline(always)]
-fn keep_record(
+pub(crate) fn keep_record(
     begun: &mut Option<Begun>,
     copies: &mut ClientCopies,
     records: &mut OwnRecords,

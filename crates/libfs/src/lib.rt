@@ -10,33 +10,45 @@
 //! What it lacks beside leases and room it asks of the kernel: copies of nodes that none of its own undigested records touches, blocks, over which it lays these records, units, numbers for new nodes, and pins. Each is one call
 //! of the kernel, and one step of its machine.
 //!
+//! A client that dies is settled by one fence of the region that it writes: its begun call is whole, with its reply, or gone, and all that it had open is closed. Once its regions are digested
+//! and wiped it is buried, in one entry of the kernel, and a new client may go on in its pass and log (`specs/ClientEnd.antt`).
+//!
 //! That what a client answers is a step of the file tree, in every whole that agrees with what it knows, is told by the laws.
 #![tactic(auto)]
 
 mod begun_record;
 mod block_fetch;
+mod bury_error;
 mod call_start;
 mod call_step;
 mod client;
+mod client_end;
 mod copy_fetch;
 mod denial;
+mod fate;
 mod grants;
 mod laws;
 mod leases;
+mod life;
 mod needs;
 mod now;
 mod region_seal;
+mod remains;
 mod sealed_region;
 mod supplies;
 
 pub use begun_record::Begun;
+pub use bury_error::BuryError;
 pub use client::{Client, Detached};
 pub use denial::Denied;
+pub use fate::{Fate, Found};
 pub use laws::{
     answered_start_is_a_step, begun_record_is_a_step, blocks_are_as_long_as_their_copy,
     inode_need_is_servable, served_client_needs_it_no_longer, wiped_region_has_room,
 };
+pub use life::Life;
 pub use now::Now;
+pub use remains::Remains;
 pub use sealed_region::SealedRegion;
 
 /// Of `area_reader`, what the crates above name.

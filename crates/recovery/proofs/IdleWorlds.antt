@@ -106,6 +106,7 @@ module _ {M : Type 0} (device : Ghosts M) where
         record {
           before = ready.before v c marked is_c;
           home = at.opened.home;
+          alive = at.opened.alive;
           unrefused = at.opened.unrefused;
           number = ap client_of at.opened.pass_is ∙ place;
           free = free_of table (0 + (c - 1)) at.seat.client.pass at.opened.pass_is;

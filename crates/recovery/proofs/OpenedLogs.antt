@@ -1,6 +1,7 @@
 -- A client's log over two regions that are wiped.
 use Rattle.std.proofs.Common.{◌≡◌, ℕ, ◌%◌, ◌==◌, cond, not, Bool, true, false, List, [], take, Option, Some, None, IsSome, is_some, inl, refl, ap, sym, ◌∙◌, subst}
 use Rattle.interleavings.specs.libfs.NewClient.{IsBlank, IsNew}
+use Rattle.interleavings.specs.libfs.declared.life.Life.TheVariants as lives
 use Rattle.interleavings.specs.client_log.Calls.{IsOnlyRead}
 use Rattle.interleavings.specs.client_log.Regions.{AreWiped, in_turn}
 use Rattle.interleavings.specs.client_log.Regions as logs
@@ -120,10 +121,11 @@ module _ {M : Type 0} (device : Ghosts M) where
     odd_back r is = subst (λ (x : RegionView M). IsUntouched device regions.1.media x.media) (same_some back.odd r (sym back.odd_is ∙ is)) back.odd_read
 
   -- the seat of its client
-  pub opened_seat : (pass : PassView) (g : ℕ) (regions : RegionView M × RegionView M) (log : LogView M) (s : SeatView M) → IsOpened device g regions log → IsBlank device log → IsNew pass log s.client → s.away ≡ None → s.refused ≡ no_refusals → IsOpenedSeat device pass g regions s
-  opened_seat pass g regions log s opened blank new home unrefused = record {
+  pub opened_seat : (pass : PassView) (g : ℕ) (regions : RegionView M × RegionView M) (log : LogView M) (s : SeatView M) → IsOpened device g regions log → IsBlank device log → IsNew pass log s.client → s.away ≡ None → s.life ≡ lives.Alive → s.refused ≡ no_refusals → IsOpenedSeat device pass g regions s
+  opened_seat pass g regions log s opened blank new home alive unrefused = record {
     pass_is = new.pass_is;
     home = home;
+    alive = alive;
     unrefused = unrefused;
     new = subst (λ (p : PassView). IsNew p s.client.log s.client) (sym new.pass_is) (subst (λ (l : LogView M). IsNew pass l s.client) (sym new.log_is) new);
     blank = subst (IsBlank device) (sym new.log_is) blank;

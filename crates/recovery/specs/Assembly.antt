@@ -16,6 +16,7 @@ use Rattle.posix_calls.specs.Operations.{is_client}
 use Rattle.interleavings.specs.lease_manager.Passes.{PassView, fresh}
 use Rattle.interleavings.specs.client_log.Steps.{IsOpened}
 use Rattle.interleavings.specs.libfs.NewClient.{IsBlank, IsNew}
+use Rattle.interleavings.specs.libfs.declared.life.Life.TheVariants as lives
 use Rattle.interleavings.specs.event_steps.View.{SeatView}
 use Rattle.area_recovery.specs.declared.error.RecoveryError.{RecoveryError}
 use Rattle.area_recovery.specs.declared.error.RecoveryError.TheVariants.{DeviceFault}
@@ -44,6 +45,7 @@ module _ {M : Type 0} (device : Ghosts M) where
   pub record IsOpenedSeat (pass : PassView) (g : ℕ) (regions : RegionView M × RegionView M) (s : SeatView M) : Type 0 where
     pub pass_is : s.client.pass ≡ pass
     pub home : s.away ≡ None
+    pub alive : s.life ≡ lives.Alive
     pub unrefused : s.refused ≡ no_refusals
     pub new : IsNew s.client.pass s.client.log s.client
     pub blank : IsBlank device s.client.log

@@ -10,6 +10,7 @@ ghost use Rattle.interleavings.specs.area_reader.Store.{disk, graph, marks as ma
 ghost use Rattle.interleavings.specs.event_steps.Sound.{AreSeats};
 ghost use Rattle.interleavings.specs.lease_manager.Passes.{fresh, places};
 ghost use Rattle.interleavings.specs.libfs.NewClient.{IsBlank, IsNew};
+ghost use Rattle.interleavings.specs.libfs.declared.life.Life.TheVariants as lives;
 ghost use Rattle.interleavings.specs.client_log.Steps.{IsOpened};
 ghost use Rattle.interleavings.specs.system_laws.Idle.{IsIdleSystem};
 ghost use Rattle.interleavings.specs.system_laws.KeptCalls.{no_calls};
@@ -265,6 +266,7 @@ fn open_client<M: Media + Drop>(
     requires blank { IsBlank M.Media log }
     ensures new { IfOk result (λ s. IsNew pass log s.client) }
     ensures home { IfOk result (λ s. s.away ≡ None) }
+    ensures alive { IfOk result (λ s. s.life ≡ lives.Alive) }
     ensures unrefused { IfOk result (λ s. s.refused ≡ no_refusals) }
     ensures back { IfErr result (λ l. l ≡ log) }
 {

@@ -80,7 +80,7 @@ fn regions_of_seat<M: Media + Drop>(seat: ClientSlot<M>) -> (Region<M>, Region<M
 {
     // For the proof: a region that is not in the log is away.
     seat.left_now();
-    let (client, away) = seat.into_parts();
+    let (client, away, _) = seat.into_parts();
     let (even, odd) = client.detach().regions;
     let Some(even) = even else {
         return (present(away).into_region(), present(odd));

@@ -12,7 +12,7 @@ use Rattle.script.specs.declared.call_text.Line.{Line}
 use Rattle.script.specs.declared.call_text.Line.TheVariants as line
 use Rattle.script.specs.declared.system_line.SystemLine.{SystemLine}
 use Rattle.script.specs.declared.system_line.SystemLine.TheVariants as system
-use Rattle.script.specs.SystemLines.{Asked, Calls, Steps, Digests, Wipes, Moves, Places, Books, Stops, Halts, Fails, Recovers}
+use Rattle.script.specs.SystemLines.{Asked, Calls, Steps, Digests, Wipes, Dies, Buries, Moves, Places, Books, Stops, Halts, Fails, Recovers}
 
 -- the value, or no bytes
 abbrev pub or_empty : Option (List ℕ) → List ℕ
@@ -55,6 +55,8 @@ system_line_seen (system.Call c m q) = Some (Calls c m (asked_call q))
 system_line_seen (system.Step c) = Some (Steps c)
 system_line_seen (system.Digest c) = Some (Digests c)
 system_line_seen (system.Wipe c) = Some (Wipes c)
+system_line_seen (system.Die c) = Some (Dies c)
+system_line_seen (system.Bury c) = Some (Buries c)
 system_line_seen (system.Migrate path first count to) = Some (Moves (path_of path) first count to)
 system_line_seen (system.Where path block) = Some (Places (path_of path) block)
 system_line_seen system.Book = Some Books

@@ -14,12 +14,14 @@ use Rattle.script.specs.declared.system_line.LowerTier.TheVariants as tiers
 use Rattle.script.specs.declared.system_line.EventWord.{EventWord}
 use Rattle.script.specs.declared.system_line.EventWord.TheVariants as events
 
--- what is asked: a client's call, in a manner; an event of a client; a move of some blocks, from one on, to a tier; the tier of a block; how the units stand; a stop within a write or fence, and its fill; a stop between two, and the fill of each medium; the failure of a medium's write or fence; a recovery
+-- what is asked: a client's call, in a manner; an event of a client; its death, and its burial; a move of some blocks, from one on, to a tier; the tier of a block; how the units stand; a stop within a write or fence, and its fill; a stop between two, and the fill of each medium; the failure of a medium's write or fence; a recovery
 pub data Asked : Type 0 where
   Calls : (client : ℕ) (manner : Manner) (call : Call) → Asked
   Steps : (client : ℕ) → Asked
   Digests : (client : ℕ) → Asked
   Wipes : (client : ℕ) → Asked
+  Dies : (client : ℕ) → Asked
+  Buries : (client : ℕ) → Asked
   Moves : (path : List ℕ) (first count : ℕ) (to : LowerTier) → Asked
   Places : (path : List ℕ) (block : ℕ) → Asked
   Books : Asked
@@ -47,6 +49,8 @@ running_event w =
     if bytes_eq w (codes "step") then Some events.Step else
     if bytes_eq w (codes "digest") then Some events.Digest else
     if bytes_eq w (codes "wipe") then Some events.Wipe else
+    if bytes_eq w (codes "die") then Some events.Die else
+    if bytes_eq w (codes "bury") then Some events.Bury else
     if bytes_eq w (codes "migrate") then Some events.Migrate else
     if bytes_eq w (codes "where") then Some events.Where else None
 
@@ -80,6 +84,8 @@ abbrev pub asks_event : EventWord → List (List ℕ) → Option Asked
 asks_event events.Step words = one words >>= λ w. option_map Steps (client w)
 asks_event events.Digest words = one words >>= λ w. option_map Digests (client w)
 asks_event events.Wipe words = one words >>= λ w. option_map Wipes (client w)
+asks_event events.Die words = one words >>= λ w. option_map Dies (client w)
+asks_event events.Bury words = one words >>= λ w. option_map Buries (client w)
 asks_event events.Migrate words = four words >>= λ w. path_bytes w.0 >>= λ path. number w.1 >>= λ first. number w.2 >>= λ count. option_map (Moves path first count) (lower_tier w.3)
 asks_event events.Where words = two words >>= λ w. path_bytes w.0 >>= λ path. option_map (Places path) (number w.1)
 asks_event events.Stop words = two words >>= λ w. ordinal w.0 >>= λ k. option_map (Stops k) (fill w.1)

@@ -31,6 +31,7 @@ pub use fills::MEDIA;
 pub use hex::hex_byte;
 pub use laws::cut_data_are_answered_alike;
 pub use lines::{write_data, write_name};
+pub use number::{client_of, ordinal_of};
 pub use path_text::PathText;
 pub use print_runs::{is_plain, run_len};
 pub use run_error::RunError;
@@ -40,6 +41,7 @@ pub use script::reader::{ScriptError, ScriptLines};
 pub use script::replies::write_reply;
 pub use system_line::{LowerTier, Manner, SystemLine, read_system_line};
 pub use text::Text;
+pub use words::two_parts;
 
 /// Of `log_record`, what the crates above name.
 pub mod in_log_record {

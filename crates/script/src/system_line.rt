@@ -53,6 +53,14 @@ pub enum SystemLine<'a> {
     Wipe {
         client: u32,
     },
+    /// A client dies.
+    Die {
+        client: u32,
+    },
+    /// A client that died is buried, and a new one takes its seat.
+    Bury {
+        client: u32,
+    },
     /// `count` blocks of a file, from logical block `first` on, go down to a tier.
     Migrate {
         path: PathText<'a>,
@@ -94,6 +102,8 @@ pub enum EventWord {
     Step,
     Digest,
     Wipe,
+    Die,
+    Bury,
     Migrate,
     Where,
     Stop,
@@ -156,6 +166,8 @@ fn event_of(word: &[u8]) -> Option<EventWord>
         "step" => Some(EventWord::Step),
         "digest" => Some(EventWord::Digest),
         "wipe" => Some(EventWord::Wipe),
+        "die" => Some(EventWord::Die),
+        "bury" => Some(EventWord::Bury),
         "migrate" => Some(EventWord::Migrate),
         "where" => Some(EventWord::Where),
         "stop" => Some(EventWord::Stop),
@@ -176,6 +188,12 @@ fn asked_event(event: EventWord, words: &[u8]) -> Option<SystemLine<'_>>
             client: client_of(one_word(words)?)?,
         }),
         EventWord::Wipe => Some(SystemLine::Wipe {
+            client: client_of(one_word(words)?)?,
+        }),
+        EventWord::Die => Some(SystemLine::Die {
+            client: client_of(one_word(words)?)?,
+        }),
+        EventWord::Bury => Some(SystemLine::Bury {
             client: client_of(one_word(words)?)?,
         }),
         EventWord::Migrate => migrate_of(words),

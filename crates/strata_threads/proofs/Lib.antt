@@ -1,5 +1,7 @@
 pub mod Busy
+pub mod DeathEnds
 pub mod Handover
+pub mod LastCalls
 pub mod LeaseReturn
 pub mod Needs
 pub mod Questions

@@ -9,6 +9,7 @@ use Rattle.posix_calls.specs.declared.call.Reply.{Reply}
 use Rattle.posix_calls.specs.declared.call.Reply.TheVariants as replies
 use Rattle.libfs.specs.update_log.declared.stage.Progress.{Progress}
 use Rattle.libfs.specs.update_log.declared.stage.Progress.TheVariants.{Going, Appended}
+use Rattle.libfs.specs.update_log.declared.stage.Stage.TheVariants as stages
 use Rattle.posix_calls.specs.declared.errno.Errno.TheVariants.{IoError, NoMemory}
 use Rattle.libfs.specs.lease_manager.Passes.{PassView, client_of}
 use Rattle.libfs.specs.lease_manager.declared.view.LeaseMode.{LeaseMode}
@@ -134,6 +135,28 @@ module _ {M : Type 0} (device : Ghosts M) (old new : ClientView M) (call : Call)
       → IsStarted device call old answer new
   is_started = by_log old.log.failed refl
 
+  -- no device call of a record is made that is just begun
+  stage_of : (o : Outcome) → HasStarted device old o answer new → answer ≡ now.Pending → new.log.current.stage ≡ stages.Begun
+  stage_of (outcomes.Reply reply change) has wait = absurd (done_is_no_wait answer reply has.0 wait)
+  stage_of (outcomes.Need need) has wait = absurd (need_is_no_wait answer need has.0 wait)
+  stage_of (outcomes.Log entry reply made change) has wait = has.1.stage
+
+  stage_by_flag : (flag : Bool) → old.log.failed ≡ flag
+      → (old.log.failed ≡ true → (answer ≡ now.Done (replies.Failed IoError)) × (new ≡ old))
+      → (old.log.failed ≡ false → HasStarted device old (outcome_for device old call) answer new ⊎ IsOutOfMemory device old call answer new)
+      → answer ≡ now.Pending → new.log.current.stage ≡ stages.Begun
+  stage_by_flag true is fault going wait = absurd (done_is_no_wait answer (replies.Failed IoError) (fault is).0 wait)
+  stage_by_flag false is fault going wait = ⊎_elim
+      (λ (has : HasStarted device old (outcome_for device old call) answer new). stage_of (outcome_for device old call) has wait)
+      (λ (out : IsOutOfMemory device old call answer new). absurd (done_is_no_wait answer (replies.Failed NoMemory) out.told wait))
+      (going is)
+
+  pub begun_stage :
+      (old.log.failed ≡ true → (answer ≡ now.Done (replies.Failed IoError)) × (new ≡ old))
+      → (old.log.failed ≡ false → HasStarted device old (outcome_for device old call) answer new ⊎ IsOutOfMemory device old call answer new)
+      → answer ≡ now.Pending → new.log.current.stage ≡ stages.Begun
+  begun_stage = stage_by_flag old.log.failed refl
+
 -- ---- device calls of a begun record
 
 none_is_some : {A : Type 0} (a : A) → None ≡ Some a → ⊥
@@ -177,6 +200,30 @@ module _ {M : Type 0} (device : Ghosts M) (old new : ClientView M) (answer : Opt
   by_step p true is pending going replied failed = moved_failed (failed is)
   by_step Going false is pending going replied failed = moved_going pending (going is refl)
   by_step Appended false is pending going replied failed = by_begun old.begun old.answered pending (replied is refl)
+
+  replied_is_some : (o : Option Begun) (answered : Bool) → (is_some o && not answered) ≡ true → IfSome o (λ b. HasReplied device old b answer new) → answer ≡ None → ⊥
+  replied_is_some None answered pending has none = false≢true pending
+  replied_is_some (Some b) answered pending has none = none_is_some _ (sym none ∙ has.told)
+
+  goes_by : (p : Progress) (flag : Bool) → new.log.failed ≡ flag → is_pending old ≡ true
+      → (new.log.failed ≡ false → p ≡ Appended → IfSome old.begun (λ b. HasReplied device old b answer new))
+      → (new.log.failed ≡ true → HasFailed device old answer new)
+      → answer ≡ None → (p ≡ Going) × (new.log.failed ≡ false)
+  goes_by p true is pending replied failed none = absurd (none_is_some _ (sym none ∙ (failed is).told))
+  goes_by Going false is pending replied failed none = (refl, is)
+  goes_by Appended false is pending replied failed none = absurd (replied_is_some old.begun old.answered pending (replied is refl) none)
+
+  -- a device call that answers nothing brought the append on, and did not fail
+  pub step_goes : (p : Progress) → is_pending old ≡ true
+      → (new.log.failed ≡ false → p ≡ Appended → IfSome old.begun (λ b. HasReplied device old b answer new))
+      → (new.log.failed ≡ true → HasFailed device old answer new)
+      → answer ≡ None → (p ≡ Going) × (new.log.failed ≡ false)
+  step_goes p = goes_by p new.log.failed refl
+
+  -- one that answers, and did not fail, was the last
+  pub step_is_last : (p : Progress) → (new.log.failed ≡ false → p ≡ Going → IsGoing device old answer new) → (answer ≡ None → ⊥) → new.log.failed ≡ false → p ≡ Appended
+  step_is_last Going going some is = absurd (some (going is refl).told)
+  step_is_last Appended going some is = refl
 
   pub step_moves : (p : Progress) → is_pending old ≡ true
       → (new.log.failed ≡ false → p ≡ Going → IsGoing device old answer new)

@@ -1,10 +1,12 @@
 pub mod CallDenials
 pub mod ClientCalls
+pub mod ClientDeath
 pub mod HeardQuestions
 pub mod HolderQuestions
 pub mod LeaseReturn
 pub mod RegionHandover
 pub mod RegionRefusals
+pub mod RegionWipe
 pub mod RunMoves
 pub mod SharedClients
 pub mod WaitedTurns

@@ -24,6 +24,11 @@ module _ {T : Type 0} where
   abbrev pub HasSentOrKept : EndView T → T → EndView T → Option T → Type 0
   HasSentOrKept old x new kept = (HasSent old x new × (kept ≡ None)) ⊎ ((new.queue ≡ old.queue) × (new.hands ≡ old.hands) × (kept ≡ Some x))
 
+  -- It was taken at this end, as the first of its queue; or that was empty at one moment, and nothing has changed.
+  abbrev pub HasLookedAt : EndView T → Option T → EndView T → Type 0
+  HasLookedAt old None new = ((items : List T) × (length items ≡ 0) × EndsLine old.hands items) × (new.hands ≡ old.hands)
+  HasLookedAt old (Some x) new = HasTaken old.hands x new.hands
+
 module _ {M : Type 0} (device : Ghosts M) where
   -- A client got its region: it took it back, exactly where it may, or sent it to the workers once more or keeps it.
   abbrev pub HasReceived : ClientView M → EndView (SealedRegionView M) → SealedRegionView M → ClientView M → EndView (SealedRegionView M) → Option (SealedRegionView M) → Type 0

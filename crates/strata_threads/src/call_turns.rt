@@ -1,8 +1,11 @@
 //! A call of one client, from its start to its answer.
-ghost use Rattle.std.specs.Prelude.{◌≡◌, ◌≢◌, ◌<◌, true, false, IfErr, IfOk, IfSome, OnErr, Result, None};
+ghost use Rattle.std.specs.Prelude.{◌≡◌, ◌≢◌, ◌<◌, ◌∷◌, [], true, false, IfErr, IfOk, IfSome, OnErr, Result, None};
 ghost use Rattle.libfs.specs.client_plan.declared.need.Need.{Need};
 ghost use Rattle.posix_calls.specs.declared.call.Reply.{Reply};
 ghost use Rattle.libfs.specs.View.{is_pending};
+ghost use Rattle.libfs.specs.update_log.Stage.{next, progress};
+ghost use Rattle.libfs.specs.update_log.declared.stage.Progress.TheVariants.{Appended, Going};
+ghost use Rattle.libfs.specs.update_log.declared.stage.Stage.TheVariants as stages;
 ghost use Rattle.libfs.specs.declared.now.Now.TheVariants as now;
 ghost use Rattle.libfs.specs.declared.denial.Denied.{Denied};
 ghost use Rattle.libfs.specs.declared.denial.Denied.TheVariants as denied;
@@ -23,7 +26,7 @@ use std::sync::Wait;
 use tier_device::Media;
 
 // A record is appended by four device calls, of which the last answers its call.
-const STEPS: u32 = 4;
+pub(crate) const STEPS: u32 = 4;
 
 impl<M: Media + Drop> ThreadClient<M> {
     /// Makes a call, and answers it: as it is started, or as the device calls of its record end. Where it is denied what it needs, or all turns were waited, it is answered why, and changes nothing.
@@ -62,8 +65,7 @@ impl<M: Media + Drop> ThreadClient<M> {
         ensures turns { IsWithinTurns result self.new.waited }
         ensures given { self.new.waited.turns ≡ turns }
     {
-        self.waited = Waited::none_of(turns);
-        self.listen_to(rt, shared, self.rows);
+        self.begin_turns(rt, shared, turns);
         for turn in rt.forever() {
             if self.waited.is_over() {
                 return Err(Denied::Turns);
@@ -73,6 +75,15 @@ impl<M: Media + Drop> ThreadClient<M> {
             }
         }
         unreachable!()
+    }
+
+    // A call begins, of which no turn was waited: its client listens.
+    pub(crate) fn begin_turns<R: Wait>(&mut self, rt: &R, shared: &SharedKernel<M>, turns: u64)
+        ensures waited { self.new.waited ≡ record { count = 0; turns = turns; to_write = 0 ∷ 0 ∷ 0 ∷ [] } }
+        ensures kept { KeepsCall self.old.client self.new.client }
+    {
+        self.waited = Waited::none_of(turns);
+        self.listen_to(rt, shared, self.rows);
     }
 
     // One turn: the call is started, and answered, or what it needs is served.
@@ -126,7 +137,7 @@ impl<M: Media + Drop> ThreadClient<M> {
         Ok(())
     }
 
-    fn serve_need<R: Wait, G: GatePoint>(
+    pub(crate) fn serve_need<R: Wait, G: GatePoint>(
         &mut self,
         rt: &R,
         shared: &SharedKernel<M>,
@@ -173,13 +184,14 @@ fn start_call<M: Media, G: GatePoint>(
 }
 
 // Starts a call: it waits then, or nothing has begun.
-fn begin_call<M: Media>(client: &mut Client<M>, call: &Call) -> Now
+pub(crate) fn begin_call<M: Media>(client: &mut Client<M>, call: &Call) -> Now
     requires idle { is_pending client.old ≡ false }
     ensures started { IsStarted M.Media call.now client.old result client.new }
     ensures needed { (need : Need) → result ≡ now.Need need → NeedsFirst M.Media client.new call.now need }
     ensures owner { owner_of client.new ≡ owner_of client.old }
     ensures leases { KeepsLeases client.old client.new }
     ensures pending { result ≡ now.Pending → is_pending client.new ≡ true }
+    ensures stage { result ≡ now.Pending → client.new.log.current.stage ≡ stages.Begun }
     ensures idle { (result ≡ now.Pending → ⊥) → is_pending client.new ≡ false }
 {
     // For the proof: a record stays begun behind its answer only if a device has failed.
@@ -209,12 +221,14 @@ fn finish<M: Media, G: GatePoint>(client: &mut Client<M>, gate: &G) -> Reply
 }
 
 // Makes a device call of a begun record, and answers its call where that was the last.
-fn make_step<M: Media>(client: &mut Client<M>) -> Option<Reply>
+pub(crate) fn make_step<M: Media>(client: &mut Client<M>) -> Option<Reply>
     requires pending { is_pending client.old ≡ true }
     ensures owner { owner_of client.new ≡ owner_of client.old }
     ensures leases { KeepsLeases client.old client.new }
     ensures ended { IfSome result (λ reply. IsEnded M.Media client.old reply client.new) }
     ensures going { result ≡ None → (is_pending client.new ≡ true) × (client.new.begun ≡ client.old.begun) }
+    ensures stage { result ≡ None → (progress client.old.log.current.stage ≡ Going) × (client.new.log.current.stage ≡ next client.old.log.current.stage) }
+    ensures last { (result ≡ None → ⊥) → client.new.log.failed ≡ false → progress client.old.log.current.stage ≡ Appended }
     ensures idle { (result ≡ None → ⊥) → is_pending client.new ≡ false }
 {
     client.step()

@@ -52,7 +52,7 @@ impl<M: Media + Drop> ThreadClient<M> {
     // Takes the region back that came by the queue, if one is away. One that the queue to the workers had no room for goes first.
     fn take_back<R: Wait>(&mut self, rt: &R, shared: &SharedKernel<M>)
         ensures back { HasComeBack M.Media self.old.client self.new.client }
-        ensures looked { self.old.client.log.other ≡ None → self.old.kept ≡ None → HasLookedForRegion M.Media self.old.client self.old.tasks self.old.returns self.new.client self.new.tasks self.new.returns self.new.kept }
+        ensures looked { self.old.client.log.other ≡ None → self.old.ends.kept ≡ None → HasLookedForRegion M.Media self.old.client self.old.ends.tasks self.old.ends.returns self.new.client self.new.ends.tasks self.new.ends.returns self.new.ends.kept }
         ensures rows { self.new.rows ≡ self.old.rows }
         ensures asked { self.new.asked ≡ self.old.asked }
         ensures kept { KeepsCall self.old.client self.new.client }
@@ -61,11 +61,7 @@ impl<M: Media + Drop> ThreadClient<M> {
         if !self.client.is_region_away() {
             return;
         }
-        self.put_kept(rt, shared);
-        if self.kept.is_some() {
-            return;
-        }
-        match self.returns.take(rt) {
+        match self.ends.take(rt, shared) {
             Some(region) => self.receive(rt, shared, region),
             None => {}
         }
@@ -73,9 +69,9 @@ impl<M: Media + Drop> ThreadClient<M> {
 
     // Takes a region back that is digested whole; any other one goes to the workers once more.
     fn receive<R: Wait>(&mut self, rt: &R, shared: &SharedKernel<M>, region: SealedRegion<M>)
-        requires free { self.old.kept ≡ None }
-        ensures received { HasReceived M.Media self.old.client self.old.tasks region self.new.client self.new.tasks self.new.kept }
-        ensures returns { self.new.returns ≡ self.old.returns }
+        requires free { self.old.ends.kept ≡ None }
+        ensures received { HasReceived M.Media self.old.client self.old.ends.tasks region self.new.client self.new.ends.tasks self.new.ends.kept }
+        ensures returns { self.new.ends.returns ≡ self.old.ends.returns }
         ensures rows { self.new.rows ≡ self.old.rows }
         ensures asked { self.new.asked ≡ self.old.asked }
         ensures kept { KeepsCall self.old.client self.new.client }
@@ -83,7 +79,7 @@ impl<M: Media + Drop> ThreadClient<M> {
     {
         match self.client.take_back(region) {
             Ok(()) => {}
-            Err(region) => self.send(rt, shared, region),
+            Err(region) => self.ends.send(rt, shared, region),
         }
     }
 
@@ -93,56 +89,24 @@ impl<M: Media + Drop> ThreadClient<M> {
         rt: &R,
         shared: &SharedKernel<M>,
     ) -> Result<(), AllocError>
-        ensures handed { OnOk result (HandsOver M.Media self.old.kept self.old.client self.old.tasks self.new.client self.new.tasks self.new.kept) }
-        ensures memory { OnErr result (CanBeSealed M.Media self.old.client.log × (self.new.client ≡ self.old.client) × (self.new.tasks ≡ self.old.tasks) × (self.new.kept ≡ self.old.kept)) }
+        ensures handed { OnOk result (HandsOver M.Media self.old.ends.kept self.old.client self.old.ends.tasks self.new.client self.new.ends.tasks self.new.ends.kept) }
+        ensures memory { OnErr result (CanBeSealed M.Media self.old.client.log × (self.new.client ≡ self.old.client) × (self.new.ends.tasks ≡ self.old.ends.tasks) × (self.new.ends.kept ≡ self.old.ends.kept)) }
         ensures sealed { HasSealedOrNot M.Media self.old.client self.new.client }
-        ensures returns { self.new.returns ≡ self.old.returns }
+        ensures returns { self.new.ends.returns ≡ self.old.ends.returns }
         ensures rows { self.new.rows ≡ self.old.rows }
         ensures asked { self.new.asked ≡ self.old.asked }
         ensures kept { KeepsCall self.old.client self.new.client }
         ensures waited { self.new.waited ≡ self.old.waited }
     {
-        if self.kept.is_some() {
+        if self.ends.kept.is_some() {
             return Ok(());
         }
         match self.client.seal()? {
             Some(region) => {
-                self.send(rt, shared, region);
+                self.ends.send(rt, shared, region);
                 Ok(())
             }
             None => Ok(()),
-        }
-    }
-
-    // Sends the region for which the queue had no room.
-    fn put_kept<R: Wait>(&mut self, rt: &R, shared: &SharedKernel<M>)
-        ensures sent { IfSome self.old.kept (λ region. HasSentOrKept self.old.tasks region self.new.tasks self.new.kept) }
-        ensures none { IfNone self.old.kept ((self.new.tasks ≡ self.old.tasks) × (self.new.kept ≡ None)) }
-        ensures returns { self.new.returns ≡ self.old.returns }
-        ensures rows { self.new.rows ≡ self.old.rows }
-        ensures asked { self.new.asked ≡ self.old.asked }
-        ensures kept { self.new.client ≡ self.old.client }
-        ensures waited { self.new.waited ≡ self.old.waited }
-    {
-        match self.kept.take() {
-            Some(region) => self.send(rt, shared, region),
-            None => {}
-        }
-    }
-
-    // Sends a region to the workers; where the queue is full it is kept. No other one is kept, which would be lost.
-    fn send<R: Wait>(&mut self, rt: &R, shared: &SharedKernel<M>, region: SealedRegion<M>)
-        requires free { self.old.kept ≡ None }
-        ensures sent { HasSentOrKept self.old.tasks region self.new.tasks self.new.kept }
-        ensures returns { self.new.returns ≡ self.old.returns }
-        ensures rows { self.new.rows ≡ self.old.rows }
-        ensures asked { self.new.asked ≡ self.old.asked }
-        ensures kept { self.new.client ≡ self.old.client }
-        ensures waited { self.new.waited ≡ self.old.waited }
-    {
-        match self.tasks.put(rt, region) {
-            Ok(()) => shared.wake_ups.wake_worker(),
-            Err(region) => self.kept = Some(region),
         }
     }
 

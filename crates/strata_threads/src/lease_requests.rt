@@ -29,7 +29,7 @@ use std::thread;
 use tier_device::Media;
 
 // A wipe makes four device calls, and a client has two regions.
-const WIPE_STEPS: u32 = 8;
+pub(crate) const WIPE_STEPS: u32 = 8;
 
 // The turns up to which a client that waits lets others go longer and longer
 const MOST_YIELDS: u64 = 64;
@@ -90,7 +90,7 @@ impl<M: Media + Drop> ThreadClient<M> {
         gate: &G,
     ) -> Result<(), Denied>
         requires left { self.old.waited.count < self.old.waited.turns }
-        ensures handed { self.old.client.log.other ≢ None → OnOk result ((sealed : ClientView M) × HandsOver M.Media self.old.kept self.old.client self.old.tasks sealed self.new.tasks self.new.kept × (self.new.client ≡ record sealed { log = self.new.client.log })) }
+        ensures handed { self.old.client.log.other ≢ None → OnOk result ((sealed : ClientView M) × HandsOver M.Media self.old.ends.kept self.old.client self.old.ends.tasks sealed self.new.ends.tasks self.new.ends.kept × (self.new.client ≡ record sealed { log = self.new.client.log })) }
         ensures unmet { IfErr result (λ e. IsUnmet M.Media self.old.client needs.Room e self.new.client) }
         ensures only { IfErr result (λ e. e ≡ denied.Memory) }
         ensures kept { KeepsCall self.old.client self.new.client }
@@ -115,7 +115,7 @@ impl<M: Media + Drop> ThreadClient<M> {
         shared: &SharedKernel<M>,
         gate: &G,
     ) -> Result<(), Denied>
-        ensures handed { OnOk result ((sealed : ClientView M) × HandsOver M.Media self.old.kept self.old.client self.old.tasks sealed self.new.tasks self.new.kept × (self.new.client ≡ record sealed { log = self.new.client.log })) }
+        ensures handed { OnOk result ((sealed : ClientView M) × HandsOver M.Media self.old.ends.kept self.old.client self.old.ends.tasks sealed self.new.ends.tasks self.new.ends.kept × (self.new.client ≡ record sealed { log = self.new.client.log })) }
         ensures unmet { IfErr result (λ e. IsUnmet M.Media self.old.client needs.Room e self.new.client) }
         ensures only { IfErr result (λ e. e ≡ denied.Memory) }
         ensures kept { KeepsCall self.old.client self.new.client }

@@ -10,27 +10,33 @@
 //! the client sealed was not back. That a call is answered at all is not promised.
 #![tactic(auto)]
 
+mod call_end;
 mod call_turns;
 mod gate_point;
 mod idle_turn;
 mod kernel_needs;
+mod last_calls;
 mod lease_requests;
 mod migration;
 mod region_digest;
+mod region_ends;
 mod region_refusal;
 mod shared_kernel;
 mod stop_flag;
 mod thread_client;
+mod thread_remains;
 mod thread_set;
 mod waited;
 mod wake_ups;
 mod worker;
 
+pub use call_end::CallEnd;
 pub use gate_point::{GatePoint, OpenGate};
 pub use migration::{migrate, run_migrator};
 pub use shared_kernel::SharedKernel;
 pub use stop_flag::StopFlag;
 pub use thread_client::ThreadClient;
+pub use thread_remains::ThreadRemains;
 pub use thread_set::{ShareError, ThreadSet};
 pub use waited::Waited;
 pub use worker::Worker;
@@ -42,5 +48,5 @@ pub mod in_layout {
 
 /// Of `libfs`, what the crates above name.
 pub mod in_libfs {
-    pub use libfs::{Client, SealedRegion};
+    pub use libfs::{BuryError, Client, Detached, Fate, SealedRegion};
 }

@@ -6,6 +6,7 @@ ghost use Rattle.libfs.specs.lease_manager.Passes.{client_of};
 ghost use Rattle.strata_threads.specs.SharedClients.{AreIdleFrom, CanBeShared, ShareTable};
 ghost use Rattle.strata_threads.specs.declared.thread_set.ShareError.TheVariants.{Clients, Memory};
 
+use crate::region_ends::RegionEnds;
 use crate::shared_kernel::SharedKernel;
 use crate::thread_client::ThreadClient;
 use crate::worker::Worker;
@@ -298,7 +299,7 @@ fn seat_client<M: Media + Drop>(
     let Some((tasks, returns)) = pairs.pop() else {
         unreachable!();
     };
-    match seated.push(ThreadClient::new(client, tasks, returns)) {
+    match seated.push(ThreadClient::new(client, RegionEnds::new(tasks, returns))) {
         Ok(()) => {}
         Err(_) => unreachable!(),
     }

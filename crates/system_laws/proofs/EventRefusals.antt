@@ -10,11 +10,15 @@ use Rattle.event_steps.specs.kernel_fs.declared.error.KernelError.TheVariants as
 use Rattle.event_steps.specs.kernel_fs.declared.error.ReclaimError.{ReclaimError}
 use Rattle.event_steps.specs.kernel_fs.declared.error.ReclaimError.TheVariants as reclaims
 use Rattle.event_steps.specs.client_log.declared.error.LogError.{LogError}
+use Rattle.event_steps.specs.libfs.declared.bury_error.BuryError.{BuryError}
+use Rattle.event_steps.specs.libfs.declared.bury_error.BuryError.TheVariants as burials
 use Rattle.event_steps.specs.libfs.declared.denial.Denied.{Denied}
 use Rattle.event_steps.specs.libfs.declared.denial.Denied.TheVariants as denied
+use Rattle.event_steps.specs.libfs.declared.fate.Fate.{Fate}
 use Rattle.event_steps.specs.libfs.declared.now.Now.{Now}
 use Rattle.event_steps.specs.libfs.declared.now.Now.TheVariants as now
 use Rattle.event_steps.specs.update_log.declared.stage.WipeProgress.{WipeProgress}
+use Rattle.event_steps.specs.Deaths.{bury_outcome, settle_outcome}
 use Rattle.event_steps.specs.Effects.{Plays}
 use Rattle.event_steps.specs.Media.{move_outcome, reclaim_outcome}
 use Rattle.event_steps.specs.Outcomes.{request_outcome, start_outcome, step_outcome}
@@ -84,6 +88,21 @@ move_well (Err (kernel.Refused moves.NotMapped)) is = absurd (cc is)
 move_well (Err (kernel.Refused moves.NoBlock)) is = absurd (cc is)
 move_well (Err (kernel.Refused moves.Memory)) is = absurd (cc is)
 
+died_well : outcomes.Died ≢ bad
+died_well is = absurd (cc is)
+
+joined_well : outcomes.Joined ≢ bad
+joined_well is = absurd (cc is)
+
+settle_well : (answer : Result Fate LogError) → settle_outcome answer ≢ bad
+settle_well (Ok fate) is = absurd (cc is)
+settle_well (Err e) is = absurd (cc is)
+
+bury_well : (answer : Result (Unit {0}) BuryError) → bury_outcome answer ≢ bad
+bury_well (Ok done) is = absurd (cc is)
+bury_well (Err (burials.NotDigested count)) is = absurd (cc is)
+bury_well (Err burials.KernelFailed) is = absurd (cc is)
+
 -- what is told so is no such outcome
 told_well : (o good : Outcome) → o ≡ good → good ≢ bad → o ≢ bad
 told_well o good told well is = well (sym told ∙ is)
@@ -121,3 +140,7 @@ module _ {M : Type 0} (device : Ghosts M) (digest : (c : ℕ) → IsWell device 
   each_well (event.Reclaim i) = λ v o new begun turn made. told_well o (reclaim_outcome made.0.answer) made.0.told (reclaim_well made.0.answer)
   each_well (event.Migrate i first count to) = λ v o new begun turn made. told_well o (move_outcome made.0.answer) made.0.told (move_well made.0.answer)
   each_well (event.Deny c call why) = λ v o new begun turn made. told_well o _ made.makes.0.told (reply_well _)
+  each_well (event.Die c) = λ v o new begun turn made. told_well o outcomes.Died made.makes.0.told died_well
+  each_well (event.Settle c) = λ v o new begun turn made. told_well o (settle_outcome made.makes.0.answer) made.makes.0.told (settle_well made.makes.0.answer)
+  each_well (event.Bury c) = λ v o new begun turn made. told_well o (bury_outcome made.makes.answer) made.makes.told (bury_well made.makes.answer)
+  each_well (event.Join c) = λ v o new begun turn made. told_well o outcomes.Joined made.makes.0.told joined_well

@@ -42,6 +42,7 @@ none_of c a = record { region = 0; which = omega arith; moves = none_only _ a a 
 pub none_moves : (e : Event) (a : Reading) → EventMoves e a a
 none_moves (event.Step c) a = none_of c a
 none_moves (event.WipeStep c) a = none_of c a
+none_moves (event.Settle c) a = none_of c a
 none_moves (event.Digest c) a = none_only 0 a a (λ p. refl)
 none_moves (event.Reclaim i) a = none_only 0 a a (λ p. refl)
 none_moves (event.Migrate i first count to) a = none_only 0 a a (λ p. refl)
@@ -51,12 +52,14 @@ none_moves e a = λ p low. refl
 idle_news : (calls : Unfinished) (e : Event) → news calls e outcomes.Idle ≡ no_news calls
 idle_news calls (event.Start c call) = refl
 idle_news calls (event.Step c) = refl
+idle_news calls (event.Settle c) = refl
 idle_news calls (event.Deny c call why) = refl
 idle_news calls e = refl
 
 idle_calls : (calls : List (Option Call)) (e : Event) → calls_then calls e outcomes.Idle ≡ calls
 idle_calls calls (event.Start c call) = refl
 idle_calls calls (event.Step c) = refl
+idle_calls calls (event.Settle c) = refl
 idle_calls calls e = refl
 
 module _ {M : Type 0} (device : Ghosts M) where

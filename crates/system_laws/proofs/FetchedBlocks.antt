@@ -1,6 +1,6 @@
 -- A client fetches blocks of a file.
 use Rattle.std.proofs.Common.{◌≡◌, ◌⊎◌, inl, inr, ℕ, ◌-◌, Bool, true, false, List, Option, Some, refl, ap, sym, ◌∙◌, subst}
-use Rattle.std.specs.Prelude.{IfSome, slice_set}
+use Rattle.std.specs.Prelude.{slice_set}
 use Rattle.tier_device.specs.declared.media.Media.{Ghosts}
 use Rattle.posix_calls.specs.Operations.{is_client}
 use Rattle.event_steps.specs.area_reader.Store.{disk}
@@ -22,7 +22,7 @@ use Rattle.event_steps.specs.world_invariant.World as world
 use Rattle.event_steps.specs.Effects.{MakesAt}
 use Rattle.event_steps.specs.KernelRequests.{GetsBlocks, HasNoSuchBlocks}
 use Rattle.event_steps.specs.Outcomes.{noted_refusals}
-use Rattle.event_steps.specs.Turns.{CanPlay, IsHeld}
+use Rattle.event_steps.specs.Turns.{CanPlay}
 use Rattle.event_steps.specs.View.{SeatView, SystemView}
 use Rattle.event_steps.specs.declared.event.Event.TheVariants.{Blocks}
 use Rattle.event_steps.specs.declared.outcome.Outcome.{Outcome}
@@ -40,7 +40,7 @@ use Rattle.system_laws.proofs.FetchedCopies.{behind_its_mark, known_holds, known
 use Rattle.system_laws.proofs.Given.{Given}
 use Rattle.system_laws.proofs.KnownBlocks.{HasMoreOf, IsBlockOfFile, more_agrees}
 use Rattle.system_laws.proofs.Looked.{looked_step}
-use Rattle.system_laws.proofs.OwnSeat.{leaves_at, number_at}
+use Rattle.system_laws.proofs.OwnSeat.{leaves_at, number_at, turn_at}
 use Rattle.system_laws.proofs.Refills.{known_part}
 use Rattle.system_laws.proofs.Seated.{own_part}
 use Rattle.system_laws.proofs.Seats.{client_is}
@@ -99,7 +99,7 @@ module _ {M : Type 0} (device : Ghosts M) where
           let is_c = client_is c turn.0 in
           let own = own_part device v w begun.stands.accepted begun.stands.shared_marks begun.stands.cut c s is is_c makes.was in
           let number = number_at device v c s is_c makes.was begun.leaves in
-          let held = subst (λ (y : Option (SeatView M)). IfSome y (λ s. IsHeld s.client i)) makes.was turn.1 in
+          let held = (turn_at device v c makes.seat is_c makes.was (Blocks c i first count) turn.1).1 in
           let leased = leased_is device v w begun.stands.accepted begun.stands.shared_marks begun.stands.cut c s is is_c makes.was i settled held in
           let was = is.going going in
           let mark : Mark = mark_of begun.stands.shared_marks (client_of s.client.pass) in

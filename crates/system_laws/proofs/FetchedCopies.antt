@@ -1,6 +1,6 @@
 -- A client fetches a copy, and blocks of a file.
 use Rattle.std.proofs.Common.{◌≡◌, ◌≢◌, inl, inr, ℕ, ◌-◌, ◌==◌, ◌||◌, ◌&&◌, cond, Bool, true, false, List, ◌++◌, drop, Option, Some, None, Ok, Err, refl, ap, sym, ◌∙◌, subst, arith}
-use Rattle.std.specs.Prelude.{Result, OnErr, OnOk, IfSome, option_map, slice_set}
+use Rattle.std.specs.Prelude.{Result, OnErr, OnOk, option_map, slice_set}
 use Rattle.std.proofs.lemmas.Bool.Decides.{nat_tests}
 use Rattle.tier_device.specs.declared.media.Media.{Ghosts}
 use Rattle.posix_calls.specs.Operations.{is_client}
@@ -60,7 +60,7 @@ use Rattle.system_laws.proofs.Given.{Given}
 use Rattle.system_laws.proofs.LeasesGiven.{clean_log}
 use Rattle.system_laws.proofs.Looked.{looked_step}
 use Rattle.system_laws.proofs.MarkPlaces.{behind_mark, mark_now, not_away}
-use Rattle.system_laws.proofs.OwnSeat.{leaves_at, number_at, of_seat}
+use Rattle.system_laws.proofs.OwnSeat.{of_seat, turn_at}
 use Rattle.system_laws.proofs.Refills.{known_part}
 use Rattle.system_laws.proofs.Seated.{own_mark, own_part, same_world}
 use Rattle.system_laws.proofs.Seats.{client_is}
@@ -184,7 +184,7 @@ module _ {M : Type 0} (device : Ghosts M) where
           let s = makes.seat in
           let is_c = client_is c turn.0 in
           let own = own_part device v w begun.stands.accepted begun.stands.shared_marks begun.stands.cut c s is is_c makes.was in
-          let held = subst (λ (y : Option (SeatView M)). IfSome y (λ s. IsHeld s.client i)) makes.was turn.1 in
+          let held = (turn_at device v c makes.seat is_c makes.was (Fetch c i) turn.1).1 in
           let leased = leased_is device v w begun.stands.accepted begun.stands.shared_marks begun.stands.cut c s is is_c makes.was i settled held in
           let none = (subst (λ (b : Option Begun). IsBegunAs (calls_of v c) b (w.clients c).begun) idle own.begun).0 in
           let can : CanFetch w c i = record {

@@ -1,5 +1,5 @@
 -- A region that is away, in a system that stands for a world: it is its machine's region, and stands there, so that no record of it is bad.
-use Rattle.std.proofs.Common.{◌≡◌, inl, inr, ℕ, ◌+◌, ◌-◌, ◌<◌, ◌≤◌, cond, Bool, true, List, ◌++◌, drop, take, length, Option, Some, None, ap, sym, ◌∙◌, subst, arith}
+use Rattle.std.proofs.Common.{◌≡◌, inl, inr, ℕ, ◌+◌, ◌-◌, ◌<◌, ◌≤◌, cond, Bool, true, List, drop, take, length, Option, Some, None, ap, sym, ◌∙◌, subst, arith}
 use Rattle.std.proofs.lemmas.List.{length-drop, take-append-drop}
 use Rattle.tier_device.specs.declared.media.Media.{Ghosts}
 use Rattle.posix_calls.specs.Operations.{is_client}

@@ -38,16 +38,17 @@ use Rattle.recovery_laws.specs.Contents.{mark_by}
 use Rattle.system_laws.specs.Idle.{IsIdleSeat, IsIdleSystem}
 use Rattle.system_laws.specs.KeptCalls.{no_calls}
 use Rattle.system_laws.specs.Parts.{region_beside, region_of}
-use Rattle.system_laws.specs.Relation.{IsBegunAs, IsClientOf, IsWorld, IsWorldOf, StandsMarked, accepted_of, first_generation, held_of, status_of}
+use Rattle.system_laws.specs.Relation.{IsBegunAs, IsClientOf, IsWorld, IsWorldOf, StandsMarked, accepted_of, first_generation, held_of}
 use Rattle.system_laws.specs.Relation as cuts
 use Rattle.system_laws.specs.WorldView.{calls_of}
+use Rattle.system_laws.proofs.Statuses.{alive_status}
 
 -- an inode's number has a lease word
 word_of : (i : ℕ) → is_inode i ≡ true → HasWord i
 word_of i is = let parts = and_parts (nat_le 1 i) (nat_le i 1024) is in let low = parts.0 in let high = parts.1 in (grind (arith, nat_tests, low), grind (arith, nat_tests, high))
 
 -- a pass that holds no lease holds nothing
-none_held : (says : LeaseMode → Bool) → says Free ≡ false → (p : PassView) → ((i : ℕ) → HasWord i → lease_of p i ≡ Free) → (i : ℕ) → (is_inode i && says (lease_of p i)) ≡ false
+pub none_held : (says : LeaseMode → Bool) → says Free ≡ false → (p : PassView) → ((i : ℕ) → HasWord i → lease_of p i ≡ Free) → (i : ℕ) → (is_inode i && says (lease_of p i)) ≡ false
 none_held says not_free p free i = by_inode (is_inode i) (λ is. free i (word_of i is))
   where
     by_inode : (b : Bool) → (b ≡ true → lease_of p i ≡ Free) → (b && says (lease_of p i)) ≡ false
@@ -93,7 +94,7 @@ module _ {M : Type 0} (device : Ghosts M) where
     writes_are = λ i. sym (none_held is_writing refl s.client.pass h.free i);
     spare = sym h.new.spare;
     pins = λ i. sym (ap (λ (pins : List ℕ). is_among i pins) h.new.pins);
-    status = ap status_of (sym h.opened.unfailed);
+    status = sym (alive_status s.life s.client.log.failed h.alive h.opened.unfailed);
   }
 
   -- and stands at its mark

@@ -1,6 +1,6 @@
 -- A lease is given back, and what was known of its inode is forgotten.
 use Rattle.std.proofs.Common.{◌≡◌, ℕ, zero, suc, ◌+◌, ◌-◌, ◌==◌, ◌||◌, Bool, true, false, cond, List, [], ◌∷◌, ◌++◌, drop, Option, Some, None, refl, subst, sym, ap, ◌∙◌, arith}
-use Rattle.std.specs.Prelude.{slice_set, IfSome}
+use Rattle.std.specs.Prelude.{slice_set}
 use Rattle.std.proofs.lemmas.Bool.{false≢true}
 use Rattle.std.proofs.lemmas.List.Sums.{sum_by-cons}
 use Rattle.tier_device.specs.declared.media.Media.{Ghosts}
@@ -12,7 +12,6 @@ use Rattle.event_steps.specs.lease_manager.Passes.{PassView, without_lease}
 use Rattle.event_steps.specs.lease_manager.PassLeases.{is_reading, is_writing}
 use Rattle.event_steps.specs.lease_manager.declared.view.LeaseMode.TheVariants.{Free}
 use Rattle.event_steps.specs.libfs.ClientHoldings.{known_to}
-use Rattle.event_steps.specs.libfs.LeaseCalls.{CanBeGiven}
 use Rattle.event_steps.specs.libfs.View.{ClientView, begun_record, own_records}
 use Rattle.event_steps.specs.client_log.View.{current_records}
 use Rattle.event_steps.specs.update_log.Frames.{with_record}
@@ -30,6 +29,7 @@ use Rattle.system_laws.specs.Steps.{IsBegunIn, IsStep}
 use Rattle.system_laws.specs.WorldView.{WorldView, calls_of}
 use Rattle.system_laws.proofs.Given.{Given}
 use Rattle.system_laws.proofs.LeaseEvents.{freed, said_with}
+use Rattle.system_laws.proofs.OwnSeat.{turn_at}
 use Rattle.system_laws.proofs.Refills.{idle_client}
 use Rattle.system_laws.proofs.Seated.{own_mark, own_part, quiet_step}
 use Rattle.system_laws.proofs.Seats.{client_is, same_seat}
@@ -79,7 +79,7 @@ module _ {M : Type 0} (device : Ghosts M) where
       let s = makes.seat in
       let x = makes.seat_then in
       let is_c = client_is c turn.0 in
-      let may = subst (λ (y : Option (SeatView M)). IfSome y (λ t. CanBeGiven t.client i)) makes.was turn.1 in
+      let may = (turn_at device v c s is_c makes.was (Give c i) turn.1).1 in
       let is = makes.makes.0 in
       let own = own_part device v w st.accepted st.shared_marks st.cut c s st.is is_c makes.was in
       let mark = own_mark device v w st.accepted st.shared_marks st.cut c s st.is is_c makes.was in

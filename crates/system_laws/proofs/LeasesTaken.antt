@@ -1,6 +1,6 @@
 -- A lease is asked for, taken, raised and given.
 use Rattle.std.proofs.Common.{◌≡◌, ◌≢◌, ◌⊎◌, inl, inr, ℕ, ◌-◌, ◌<◌, ◌==◌, ◌&&◌, ◌||◌, Bool, true, false, cond, Option, Some, refl, subst, sym, ap, ◌∙◌, arith}
-use Rattle.std.specs.Prelude.{slice_set, IfSome}
+use Rattle.std.specs.Prelude.{slice_set}
 use Rattle.std.proofs.lemmas.Bool.{cases_lt}
 use Rattle.std.proofs.lemmas.Bool.Decides.{eqb_tells}
 use Rattle.tier_device.specs.declared.media.Media.{Ghosts}
@@ -22,7 +22,7 @@ use Rattle.event_steps.specs.layout.declared.marks.Mark.{Mark}
 use Rattle.event_steps.specs.View.{SeatView, SystemView, seat_of}
 use Rattle.event_steps.specs.Effects.{MakesAt}
 use Rattle.event_steps.specs.Leases.{HasPass}
-use Rattle.event_steps.specs.Turns.{CanPlay, HasTurn}
+use Rattle.event_steps.specs.Turns.{CanPlay}
 use Rattle.event_steps.specs.client_plan.declared.need.Mode.{Mode}
 use Rattle.event_steps.specs.client_plan.declared.need.Mode.TheVariants.{Read, Write}
 use Rattle.event_steps.specs.declared.outcome.Outcome.TheVariants as outcomes
@@ -42,6 +42,7 @@ use Rattle.system_laws.proofs.Given.{Given}
 use Rattle.system_laws.proofs.Seated.{own_mark, own_part, quiet_step, same_world}
 use Rattle.system_laws.specs.Relation.{IsClientOf, StandsMarked}
 use Rattle.system_laws.proofs.LeaseEvents.{said_with, unheld_beside, unwritten_beside}
+use Rattle.system_laws.proofs.OwnSeat.{turn_at}
 use Rattle.system_laws.proofs.Seats.{client_is, seat_beside, seat_there, same_seat}
 
 module _ {M : Type 0} (device : Ghosts M) where
@@ -207,7 +208,7 @@ module _ {M : Type 0} (device : Ghosts M) where
   ]
     where
       free_of : CanPlay device v.system (events.Lease c i mode) → HasWord i × (lease_of makes.seat.client.pass i ≡ Free)
-      free_of turn = subst (λ (x : Option (SeatView M)). IfSome x (λ s. HasTurn device s (events.Lease c i mode))) makes.was turn.1
+      free_of turn = (turn_at device v c makes.seat (client_is c turn.0) makes.was (events.Lease c i mode) turn.1).1
 
       by_mode : (mode : Mode) → (o ≡ outcomes.Stepped) × HasPass makes.seat (with_lease makes.seat.client.pass i (mode_of mode)) makes.seat_then → HasTaken makes.seat i (mode_of mode) → HasWord i × (lease_of makes.seat.client.pass i ≡ Free) → IsStep device v (events.Lease c i mode) o (record { system = new; calls = v.calls })
       by_mode Read is took at = read_taken_step given v new c i makes.seat (events.Lease c i Read) o begun (client_is c turn.0) makes.was makes.makes.1
@@ -228,4 +229,4 @@ module _ {M : Type 0} (device : Ghosts M) where
   ]
     where
       word_of : CanPlay device v.system (events.Raise c i) → HasWord i
-      word_of turn = (subst (λ (x : Option (SeatView M)). IfSome x (λ s. HasTurn device s (events.Raise c i))) makes.was turn.1).0
+      word_of turn = (turn_at device v c makes.seat (client_is c turn.0) makes.was (events.Raise c i) turn.1).1.0

@@ -42,6 +42,7 @@ pub mod RegionStops
 pub mod ClientMoves
 pub mod WorldMoves
 pub mod OwnSeat
+pub mod Statuses
 pub mod SealedRegions
 pub mod WipedRegions
 pub mod AwayRegions
@@ -55,11 +56,19 @@ pub mod StartAnswers
 pub mod UnfinishedCalls
 pub mod StartRecords
 pub mod StartedCalls
+pub mod RegionCalls
 pub mod CallSteps
 pub mod RepliedWorlds
+pub mod KeptRecords
 pub mod RepliedCalls
 pub mod SteppedCalls
+pub mod DeadClients
+pub mod SettledParts
+pub mod SettledClients
 pub mod IdleSystems
+pub mod EmptiedClients
+pub mod BuriedClients
+pub mod JoinedClients
 -- Handed on to the crates above, which list only the highest of what they name.
 pub use Rattle.event_steps.proofs.batch_journal_lemmas
 pub use Rattle.event_steps.proofs.call_effects_lemmas

@@ -1,6 +1,6 @@
 -- What holds of the seat of one client, in a system that stands for a world.
 use Rattle.std.proofs.Common.{◌≡◌, ℕ, ◌&&◌, not, Bool, true, false, Option, Some, None, refl, sym, ◌∙◌, subst}
-use Rattle.std.specs.Prelude.{is_some}
+use Rattle.std.specs.Prelude.{IfSome, is_some}
 use Rattle.std.proofs.lemmas.Bool.{false≢true}
 use Rattle.tier_device.specs.declared.media.Media.{Ghosts}
 use Rattle.posix_calls.specs.Operations.{is_client}
@@ -8,7 +8,9 @@ use Rattle.event_steps.specs.libfs.View.{ClientView, is_pending}
 use Rattle.event_steps.specs.libfs.declared.begun_record.Begun.{Begun}
 use Rattle.event_steps.specs.Sound.{number_of}
 use Rattle.event_steps.specs.Stops.{SeatLeaves}
+use Rattle.event_steps.specs.Turns.{HasTurn}
 use Rattle.event_steps.specs.View.{HasSeat, SeatView, seat_of}
+use Rattle.event_steps.specs.declared.event.Event.{Event}
 use Rattle.system_laws.specs.Leaves.{HoldRecords, HoldsRecords, SystemLeaves}
 use Rattle.system_laws.specs.Relation.{IsClientOf, StandsMarked}
 use Rattle.recovery_laws.specs.Contents.{mark_by}
@@ -19,6 +21,10 @@ use Rattle.system_laws.proofs.WorldMoves.{StandsAs, Stood}
 module _ {M : Type 0} (device : Ghosts M) (v : WorldView M) (c : ℕ) (s : SeatView M) (is_c : is_client c ≡ true) (there : seat_of v.system c ≡ Some s) where
   pub of_seat : (P : SeatView M → Type 0) → HasSeat v.system c P → P s
   of_seat P had = subst P (same_seat had.0 s (sym had.1 ∙ there)) had.2
+
+  -- it has something to do
+  pub turn_at : (e : Event) → IfSome (seat_of v.system c) (λ t. HasTurn device t e) → HasTurn device s e
+  turn_at e turn = subst (λ (y : Option (SeatView M)). IfSome y (λ t. HasTurn device t e)) there turn
 
   pub client_at : (z : Stood) → StandsAs device v z → IsClientOf device s (calls_of v c) (z.world.clients c)
   client_at z is = of_seat (λ y. IsClientOf device y (calls_of v c) (z.world.clients c)) (is.clients c is_c)

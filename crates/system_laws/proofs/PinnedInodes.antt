@@ -1,6 +1,6 @@
 -- A client pins an inode, and drops a pin.
 use Rattle.std.proofs.Common.{◌≡◌, ◌≢◌, ◌⊎◌, inl, inr, arith, ℕ, ◌+◌, ◌-◌, ◌<◌, ◌==◌, ◌||◌, ◌&&◌, cond, Bool, true, false, not, List, [], ◌∷◌, ◌++◌, Option, Some, None, Ok, Err, refl, ap, sym, ◌∙◌, subst}
-use Rattle.std.specs.Prelude.{Result, OnOk, IfSome, is_some}
+use Rattle.std.specs.Prelude.{Result, OnOk, is_some}
 use Rattle.std.proofs.lemmas.Bool.{false≢true}
 use Rattle.std.proofs.lemmas.Bool.Decides.{eqb_tells}
 use Rattle.std.proofs.lemmas.List.Folds.{list_any-append}
@@ -18,6 +18,7 @@ use Rattle.event_steps.specs.libfs.NeedService.{with_pin, without_pin}
 use Rattle.event_steps.specs.libfs.View.{ClientView}
 use Rattle.event_steps.specs.libfs.declared.begun_record.Begun.{Begun}
 use Rattle.event_steps.specs.libfs.declared.denial.Denied.{Denied}
+use Rattle.event_steps.specs.libfs.declared.life.Life.TheVariants as lives
 use Rattle.event_steps.specs.file_graph.Graph.{is_among}
 use Rattle.event_steps.specs.world_invariant.BookSteps.{CanUnpin}
 use Rattle.event_steps.specs.world_invariant.LeaseSteps.{also, without}
@@ -33,14 +34,15 @@ use Rattle.event_steps.specs.declared.outcome.Outcome.{Outcome}
 use Rattle.event_steps.proofs.world_invariant_lemmas.Books.{pinned_holds, pinned_tree, unpinned_holds, unpinned_tree}
 use Rattle.posix_calls.proofs.Sums.{any_there}
 use Rattle.system_laws.specs.Leaves.{HoldsRecords}
-use Rattle.system_laws.specs.Relation.{Cut, IsBegunAs, IsWorldOf, machine_of, status_of}
+use Rattle.system_laws.specs.Relation.{Cut, IsBegunAs, IsWorldOf, machine_of}
 use Rattle.system_laws.specs.Steps.{IsBegunIn, IsStep}
 use Rattle.system_laws.specs.WorldView.{WorldView, calls_of}
 use Rattle.system_laws.proofs.Booked.{booked_step, unbooked_step}
 use Rattle.system_laws.proofs.Given.{Given}
-use Rattle.system_laws.proofs.OwnSeat.{holds_at, number_at}
+use Rattle.system_laws.proofs.OwnSeat.{holds_at, number_at, turn_at}
 use Rattle.system_laws.proofs.Seated.{own_part}
 use Rattle.system_laws.proofs.Seats.{client_is}
+use Rattle.system_laws.proofs.Statuses.{failed_status}
 use Rattle.system_laws.proofs.Supplies.{client_with, supplied}
 
 -- ---- lists of pins
@@ -93,9 +95,9 @@ pins_part p x pins then knows spare same = λ t. record p { knows = sym knows t;
 
 -- ---- when a pin may go
 
-pub idle_or_failed : (call : Option Call) (b : Option Begun) (answered failed : Bool) (p : Option world.Begun) → (is_some b && not answered) ≡ false → IsBegunAs call b p → (answered ≡ true → (failed ≡ true) × (is_some b ≡ true)) → (p ≡ None) ⊎ (status_of failed ≡ world.Failed)
+pub idle_or_failed : (call : Option Call) (b : Option Begun) (answered failed : Bool) (p : Option world.Begun) → (is_some b && not answered) ≡ false → IsBegunAs call b p → (answered ≡ true → (failed ≡ true) × (is_some b ≡ true)) → (p ≡ None) ⊎ (failed ≡ true)
 idle_or_failed call None answered failed p idle begun stays = inl begun.0
-idle_or_failed call (Some b) true failed p idle begun stays = inr (ap status_of (stays refl).0)
+idle_or_failed call (Some b) true failed p idle begun stays = inr (stays refl).0
 idle_or_failed call (Some b) false failed p idle begun stays = absurd (false≢true (sym idle))
 
 not_opened : (own : Own) (i n : ℕ) (o : Descriptor) → has_open own i ≡ false → n < 32 → own n ≡ Some o → o.inode ≢ i
@@ -105,14 +107,14 @@ not_opened own i n o closed low there same = absurd (false≢true (sym closed �
     back = omega arith
 
 module _ {M : Type 0} (device : Ghosts M) (v : WorldView M) (w : World) (accepted : ℕ → ℕ) (shared_marks : Marks) (cut : Cut) (c i : ℕ) (s : SeatView M) (is : IsWorldOf device v w accepted shared_marks cut) (is_c : is_client c ≡ true) (there : seat_of v.system c ≡ Some s) where
-  can_unpin : HoldsRecords device s.client → CanBeUnpinned s.client i → CanUnpin w c i
-  can_unpin held can =
+  can_unpin : HoldsRecords device s.client → s.life ≡ lives.Alive → CanBeUnpinned s.client i → CanUnpin w c i
+  can_unpin held alive can =
       let own = own_part device v w accepted shared_marks cut c s is is_c there in
       record {
         client = is_c;
         idle = elim (idle_or_failed (calls_of v c) s.client.begun s.client.answered s.client.log.failed (w.clients c).begun can.idle own.begun held.failed) [
           | inl idle ↦ inl idle
-          | inr failed ↦ inr (own.status ∙ failed)
+          | inr failed ↦ inr (own.status ∙ failed_status s.life s.client.log.failed alive failed)
         ];
         closed = λ n o open_at. not_opened (w.clients c).knows.own i n o (ap (λ (k : Knowledge). has_open k.own i) own.knows ∙ can.closed)
             (is.coherent.sound.typed.in_range c n o (ap (λ b. cond b ((w.clients c).knows.own n) None) is_c ∙ open_at)).2 open_at;
@@ -157,7 +159,8 @@ module _ {M : Type 0} (device : Ghosts M) where
           let own = own_part device v w begun.stands.accepted begun.stands.shared_marks begun.stands.cut c s is is_c makes.was in
           let number = number_at device v c s is_c makes.was begun.leaves in
           let a = w.kernel.accounts c in
-          let can = can_unpin device v w begun.stands.accepted begun.stands.shared_marks begun.stands.cut c i s is is_c makes.was (holds_at device v c s is_c makes.was begun.holds) (subst (λ (y : Option (SeatView M)). IfSome y (λ s. CanBeUnpinned s.client i)) makes.was turn.1) in
+          let its = turn_at device v c s is_c makes.was (Unpin c i) turn.1 in
+          let can = can_unpin device v w begun.stands.accepted begun.stands.shared_marks begun.stands.cut c i s is is_c makes.was (holds_at device v c s is_c makes.was begun.holds) its.0 its.1 in
           booked_step device given v new c s makes.seat_then (Unpin c i) o begun is_c makes.was makes.seats (λ stand. stand) refl
           a.units a.numbers (without a.pins i) (record (w.clients c) { pins = without (w.clients c).pins i }) b
           (pins ∙ ap (λ (x : ClientView M). supplied s.client x) (sym pins))

@@ -21,6 +21,10 @@ idle_or_done outcomes.Pending carries = was_done outcomes.Pending carries (λ is
 idle_or_done (outcomes.Need need) carries = was_done (outcomes.Need need) carries (λ is. absurd (cc is))
 idle_or_done outcomes.Stepped carries = was_done outcomes.Stepped carries (λ is. absurd (cc is))
 idle_or_done (outcomes.Refused why) carries = was_done (outcomes.Refused why) carries (λ is. absurd (cc is))
+idle_or_done outcomes.Died carries = was_done outcomes.Died carries (λ is. absurd (cc is))
+idle_or_done (outcomes.Settled fate) carries = was_done (outcomes.Settled fate) carries (λ is. absurd (cc is))
+idle_or_done outcomes.Buried carries = was_done outcomes.Buried carries (λ is. absurd (cc is))
+idle_or_done outcomes.Joined carries = was_done outcomes.Joined carries (λ is. absurd (cc is))
 idle_or_done outcomes.Idle carries = inl (refl, (carries.idle refl).1)
 
 -- an event that was its turn is a step

@@ -1,6 +1,6 @@
 -- A client is granted units and numbers, and gives back what it has not used.
-use Rattle.std.proofs.Common.{◌≡◌, ℕ, ◌+◌, ◌-◌, ◌≤◌, ◌&&◌, ◌||◌, Bool, true, false, not, List, [], Option, Some, None, Ok, Err, refl, ap, sym, ◌∙◌, subst, arith}
-use Rattle.std.specs.Prelude.{Result, OnOk, IfSome}
+use Rattle.std.proofs.Common.{◌≡◌, ℕ, ◌+◌, ◌-◌, ◌≤◌, ◌&&◌, ◌||◌, Bool, true, false, not, List, [], Some, None, Ok, Err, refl, ap, sym, ◌∙◌, subst, arith}
+use Rattle.std.specs.Prelude.{Result, OnOk}
 use Rattle.tier_device.specs.declared.media.Media.{Ghosts}
 use Rattle.posix_calls.specs.Operations.{is_client}
 use Rattle.event_steps.specs.call_effects.Knowledge.{Knowledge}
@@ -32,7 +32,7 @@ use Rattle.system_laws.specs.WorldView.{WorldView, calls_of}
 use Rattle.system_laws.proofs.Booked.{booked_step, unbooked_step}
 use Rattle.system_laws.proofs.Given.{Given}
 use Rattle.system_laws.proofs.GrantSets.{all_returned_holds, all_returned_tree, set_granted_holds, set_granted_tree, sums}
-use Rattle.system_laws.proofs.OwnSeat.{number_at, of_seat, idle_client as begun_none}
+use Rattle.system_laws.proofs.OwnSeat.{number_at, of_seat, turn_at, idle_client as begun_none}
 use Rattle.system_laws.proofs.StartReplies.{idle_world}
 use Rattle.system_laws.proofs.Seated.{own_part}
 use Rattle.system_laws.proofs.Seats.{client_is}
@@ -104,7 +104,7 @@ module _ {M : Type 0} (device : Ghosts M) where
           let number = number_at device v c s is_c makes.was begun.leaves in
           let a = w.kernel.accounts c in
           let m = machine_of w begun.stands.accepted in
-          let at = subst (λ (y : Option (SeatView M)). IfSome y (λ s. (is_pending s.client ≡ false) × (s.client.log.failed ≡ false))) makes.was turn.1 in
+          let at = (turn_at device v c makes.seat is_c makes.was (GiveBack c) turn.1).1 in
           let idle = idle_client device v w begun.stands.accepted begun.stands.shared_marks begun.stands.cut c s is is_c makes.was (begun.holds c is_c) at.0 at.1 in
           let back = inodes_granted (known_to s.client) in
           let bare : (ns : List ℕ) → ns ≡ [] → record (known_to s.client) { granted = λ i. is_among i ns } ≡ record (known_to s.client) { granted = λ i. false } = λ ns none t. record (known_to s.client) { granted = λ i. is_among i (none t) } in

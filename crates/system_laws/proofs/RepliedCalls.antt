@@ -1,9 +1,9 @@
 -- The last device call of a begun call: its record is kept, and it is answered.
-use Rattle.std.proofs.Common.{◌≡◌, ℕ, true, false, List, [], ◌∷◌, ◌++◌, Option, Some, None, refl, ap, sym, ◌∙◌, subst}
+use Rattle.std.proofs.Common.{◌≡◌, ℕ, false, List, [], Option, Some, None, refl, ap, sym, ◌∙◌, subst}
 use Rattle.std.specs.Prelude.{Ok}
 use Rattle.tier_device.specs.declared.media.Media.{Ghosts}
 use Rattle.tier_device.specs.declared.media.Tier.{Tier}
-use Rattle.posix_calls.specs.Operations.{is_client, reply_of}
+use Rattle.posix_calls.specs.Operations.{reply_of}
 use Rattle.posix_calls.specs.Outcome.{Unfinished, without_call}
 use Rattle.posix_calls.specs.Part.{Known, run_part}
 use Rattle.posix_calls.specs.Query.{◌>>=◌}
@@ -13,21 +13,15 @@ use Rattle.posix_calls.specs.declared.call.Reply.{Reply}
 use Rattle.posix_calls.specs.declared.operation.Operation.{Operation}
 use Rattle.posix_calls.specs.declared.operation.Operation.TheVariants.{Tell, NewDir, NewFile, OpenFile, CloseFile, Write, Resize, RemoveDir, AddName, DropName, Move, Exchange}
 use Rattle.event_steps.specs.file_graph.Graph.{is_among}
-use Rattle.event_steps.specs.log_record.declared.format.Record.{Record}
 use Rattle.event_steps.specs.client_log.HasTurn.{HasTurn}
-use Rattle.event_steps.specs.client_log.Turns.{turn_of}
-use Rattle.event_steps.specs.client_view.AfterRecord.{knows_logged}
-use Rattle.event_steps.specs.call_effects.Knowledge.{Knowledge, part_of}
+use Rattle.event_steps.specs.call_effects.Knowledge.{part_of}
 use Rattle.event_steps.specs.call_effects.Records.{effects_asked}
-use Rattle.event_steps.specs.client_plan.CallPlan.{change_of, made_by}
-use Rattle.event_steps.specs.client_plan.declared.outcome.DescriptorChange.{DescriptorChange}
 use Rattle.event_steps.specs.lease_manager.PassLeases.{reads, writes}
 use Rattle.event_steps.specs.world_invariant.ClientSteps.{IsBegun, after_reply, with_client}
 use Rattle.event_steps.specs.world_invariant.Invariant.{IsCoherent}
-use Rattle.event_steps.specs.world_invariant.World.{Client, World, world_state}
+use Rattle.event_steps.specs.world_invariant.World.{World, world_state}
 use Rattle.event_steps.specs.world_invariant.World as world
 use Rattle.event_steps.specs.libfs.CallStep.{HasReplied}
-use Rattle.event_steps.specs.libfs.ClientHoldings.{known_to}
 use Rattle.event_steps.specs.libfs.View.{ClientView}
 use Rattle.event_steps.specs.libfs.declared.begun_record.Begun.{Begun}
 use Rattle.event_steps.specs.Calls.{IsStepped}
@@ -45,9 +39,11 @@ use Rattle.system_laws.specs.KeptCalls.{calls_then, set_call}
 use Rattle.system_laws.specs.Relation.{IsBegunAs, IsBegunBy, IsClientOf, status_of}
 use Rattle.system_laws.specs.Steps.{IsBegunIn, IsStep}
 use Rattle.system_laws.specs.WorldView.{WorldView, calls_of}
-use Rattle.system_laws.proofs.CallSteps.{is_c, own, step_of}
+use Rattle.system_laws.proofs.CallSteps.{is_call, own, status_then}
 use Rattle.system_laws.proofs.Given.{Given}
-use Rattle.system_laws.proofs.RepliedWorlds.{answered_holds, answered_tree, kept_by, replied_part}
+use Rattle.system_laws.proofs.KeptRecords.{is_begun, its, knows_then, turn_then}
+use Rattle.system_laws.proofs.RegionCalls.{IsCallOf, step_of}
+use Rattle.system_laws.proofs.RepliedWorlds.{answered_holds, answered_tree, replied_part}
 use Rattle.system_laws.proofs.StopsNow.{IsSized}
 use Rattle.system_laws.proofs.UnfinishedCalls.{call_taken, set_beside, set_long, set_there}
 
@@ -106,71 +102,55 @@ module _ {M : Type 0} (device : Ghosts M) (seen_now : (m : M) (t : Tier) → dev
   abbrev made : IsStepped device s o x
   made = makes.makes.0
 
-  one : is_client c ≡ true
-  one = is_c device seen_now sized given v c o new begun turn makes
+  abbrev call_made : IsCallOf device v (Step c) new c s x
+  call_made = is_call device seen_now sized given v c o new begun turn makes
 
   was : IsClientOf device s (calls_of v c) (w.clients c)
   was = own device seen_now sized given v c o new begun turn makes
 
   module _ (sound : s.client.log.failed ≡ false) (still : x.client.log.failed ≡ false) (b : Begun) (there : s.client.begun ≡ Some b) (is : HasReplied device s.client b made.answer x.client) where
-    its : (y : world.Begun) × ((w.clients c).begun ≡ Some y) × IsBegunBy (calls_of v c) b y
-    its = subst (λ x. IsBegunAs (calls_of v c) x (w.clients c).begun) there was.begun
+    abbrev its_call : (y : world.Begun) × ((w.clients c).begun ≡ Some y) × IsBegunBy (calls_of v c) b y
+    its_call = its device w c s (calls_of v c) call_made.client was b there
 
     abbrev y : world.Begun
-    y = its.0
+    y = its_call.0
 
-    is_begun : IsBegun w c y
-    is_begun = record { client = one; there = its.1; known = λ failed. let clash : world.Alive ≡ world.Failed = sym (was.status ∙ ap status_of sound) ∙ failed in absurd (cc) }
+    begun_there : IsBegun w c y
+    begun_there = is_begun device w c s (calls_of v c) call_made.client was b there sound
 
     no_answer : IsNoAnswer y.operation
-    no_answer = with_effects w c y begun.stands.is.coherent is_begun
+    no_answer = with_effects w c y begun.stands.is.coherent begun_there
 
     outcome_is : o ≡ outcomes.Reply (reply_of y.operation)
-    outcome_is = made.told ∙ ap step_outcome is.told ∙ ap (λ (r : Reply). outcomes.Reply r) its.2.reply
+    outcome_is = made.told ∙ ap step_outcome is.told ∙ ap (λ (r : Reply). outcomes.Reply r) its_call.2.reply
 
     news_is : news (calls_of v) (Step c) o ≡ answered (without_call (calls_of v) c) c y.call (reply_of y.operation)
     news_is = ap (news (calls_of v) (Step c)) outcome_is
-        ∙ ap (λ (call : Option Call). after_step (calls_of v) c call (reply_of y.operation)) its.2.call_is
+        ∙ ap (λ (call : Option Call). after_step (calls_of v) c call (reply_of y.operation)) its_call.2.call_is
         ∙ after_kept (calls_of v) c y.call y.operation no_answer
-
-    knows_then : kept_by (w.clients c).knows y ≡ known_to x.client
-    knows_then =
-        ap (λ (k : Knowledge). kept_by k y) was.knows
-        ∙ sym (ap (λ (r : Record). knows_logged (known_to s.client) r.effects (made_by y.new y.operation) (change_of y.new y.operation)) its.2.change)
-        ∙ sym (ap (λ (n : Option ℕ). knows_logged (known_to s.client) b.change.logged.effects n (change_of y.new y.operation)) its.2.makes)
-        ∙ sym (ap (λ (d : Option DescriptorChange). knows_logged (known_to s.client) b.change.logged.effects b.change.made d) its.2.opens)
-        ∙ sym is.knows_then
-
-    turn_then : HasTurn (turn_of device x.client.log) (replied_part (w.clients c) y)
-    turn_then = subst (λ t. HasTurn t (replied_part (w.clients c) y)) (sym is.turn) (record {
-      current = ap (λ (rs : List Record). rs ++ (y.change ∷ [])) was.turn.current ∙ sym (ap (λ (r : Record). (turn_of device s.client.log).current ++ (r ∷ [])) its.2.change);
-      other = was.turn.other;
-      is_ready = was.turn.is_ready;
-      begun = refl;
-    })
 
     client_then : IsClientOf device x (calls_of (record { system = v.system; calls = set_call v.calls c None }) c) (replied_part (w.clients c) y)
     client_then = record {
-      knows = knows_then;
-      turn = turn_then;
+      knows = knows_then device w c s (calls_of v c) call_made.client was b there ∙ sym is.knows_then;
+      turn = subst (λ t. HasTurn t (replied_part (w.clients c) y)) (sym is.turn) (turn_then device w c s (calls_of v c) call_made.client was b there);
       sealed = was.sealed ∙ sym (ap (λ (z : ClientView M). z.sealed) is.rest);
-      begun = subst (λ z. IsBegunAs (calls_of (record { system = v.system; calls = set_call v.calls c None }) c) z None) (sym (ap (λ (z : ClientView M). z.begun) is.rest)) (refl, set_there v.system v.calls begun.stands.is.eight c one None);
+      begun = subst (λ z. IsBegunAs (calls_of (record { system = v.system; calls = set_call v.calls c None }) c) z None) (sym (ap (λ (z : ClientView M). z.begun) is.rest)) (refl, set_there v.system v.calls begun.stands.is.eight c call_made.client None);
       reads_are = λ i. was.reads_are i ∙ sym (ap (λ (z : ClientView M). reads z.pass i) is.rest);
       writes_are = λ i. was.writes_are i ∙ sym (ap (λ (z : ClientView M). writes z.pass i) is.rest);
       spare = was.spare ∙ sym (ap (λ (z : ClientView M). z.spare) is.rest);
       pins = λ i. was.pins i ∙ sym (ap (λ (z : ClientView M). is_among i z.pins) is.rest);
-      status = was.status ∙ ap status_of sound ∙ sym (ap status_of still);
+      status = was.status ∙ ap (status_of s.life) sound ∙ status_then device seen_now sized given v c o new begun turn makes false still;
     }
 
     run : Run (world_state w) (news (calls_of v) (Step c) o).turns (world_state (with_client w c (replied_part (w.clients c) y)))
     run = subst (λ (l : Ledger). Run (world_state w) l.turns (world_state (with_client w c (replied_part (w.clients c) y)))) (sym news_is)
-        (world_state (after_reply w c y), replied_step w c y begun.stands.is.coherent is_begun, answered_tree w c y begun.stands.is.coherent is_begun)
+        (world_state (after_reply w c y), replied_step w c y begun.stands.is.coherent begun_there, answered_tree w c y begun.stands.is.coherent begun_there)
 
     pub replied : IsStep device v (Step c) o (record { system = new; calls = calls_then v.calls (Step c) o })
     replied = subst (λ calls. IsStep device v (Step c) o (record { system = new; calls = calls })) (sym (ap (calls_then v.calls (Step c)) outcome_is ∙ calls_kept v.calls c y.operation no_answer))
-        (step_of device seen_now sized given v c o new begun turn makes (replied_part (w.clients c) y) (set_call v.calls c None)
-        (answered_holds w c y begun.stands.is.coherent is_begun) (refl, refl)
-        (set_long v.system v.calls begun.stands.is.eight c one None)
-        (set_beside v.system v.calls begun.stands.is.eight c one None)
+        (step_of device seen_now sized given v (Step c) o new c s x begun call_made (replied_part (w.clients c) y) (set_call v.calls c None)
+        (answered_holds w c y begun.stands.is.coherent begun_there) (refl, refl)
+        (set_long v.system v.calls begun.stands.is.eight c call_made.client None)
+        (set_beside v.system v.calls begun.stands.is.eight c call_made.client None)
         client_then run
-        (call_taken new v.calls begun.stands.is.eight c one ∙ sym (ap (λ (l : Ledger). l.calls) news_is)))
+        (call_taken new v.calls begun.stands.is.eight c call_made.client ∙ sym (ap (λ (l : Ledger). l.calls) news_is)))

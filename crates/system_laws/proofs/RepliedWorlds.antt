@@ -37,7 +37,7 @@ at_again f c x y = λ t d. there d t
     there : (d : ℕ) → at (at f c x) c y d ≡ at f c y d
     there d = elim (d == c) as (λ b. cond b y (cond b x (f d)) ≡ cond b y (f d)) [ true ↦ refl | false ↦ refl ]
 
-part_again : (w : World) (c : ℕ) (p q : Client) → with_client (with_client w c p) c q ≡ with_client w c q
+pub part_again : (w : World) (c : ℕ) (p q : Client) → with_client (with_client w c p) c q ≡ with_client w c q
 part_again w c p q = λ t. record { kernel = kernel t; clients = at_again w.clients c p q t }
   where
     kernel : (with_client (with_client w c p) c q).kernel ≡ (with_client w c q).kernel

@@ -21,6 +21,7 @@ use Rattle.event_steps.specs.client_plan.declared.outcome.DescriptorChange.{Desc
 use Rattle.event_steps.specs.client_view.AfterRecord.{with_change}
 use Rattle.event_steps.specs.client_view.KnowledgeTables.{Held}
 use Rattle.event_steps.specs.libfs.ClientHoldings.{holdings_of, known_to}
+use Rattle.event_steps.specs.libfs.declared.life.Life.TheVariants as lives
 use Rattle.event_steps.specs.world_invariant.ClientSteps.{CanAnswer, with_client}
 use Rattle.event_steps.specs.world_invariant.Invariant.{IsCoherent}
 use Rattle.event_steps.specs.world_invariant.World.{Account, Client, World, world_state}
@@ -31,13 +32,14 @@ use Rattle.event_steps.specs.declared.event.Event.TheVariants.{Start}
 use Rattle.event_steps.specs.declared.outcome.Outcome.{Outcome}
 use Rattle.event_steps.specs.declared.outcome.Outcome.TheVariants as outcomes
 use Rattle.event_steps.proofs.world_invariant_lemmas.Replies.{answered_holds, answered_step, refused}
-use Rattle.system_laws.specs.Relation.{IsClientOf, StandsMarked, status_of}
+use Rattle.system_laws.specs.Relation.{IsClientOf, StandsMarked}
 use Rattle.system_laws.specs.Steps.{IsBegunIn, IsStep}
 use Rattle.recovery_laws.specs.Contents.{mark_by}
 use Rattle.system_laws.specs.WorldView.{WorldView, calls_of}
 use Rattle.system_laws.proofs.Given.{Given}
 use Rattle.system_laws.proofs.Seated.{own_mark, own_part, same_world}
 use Rattle.system_laws.proofs.StartReplies.{idle_world, reply_step}
+use Rattle.system_laws.proofs.Statuses.{alive_status}
 
 -- ---- an operation without effects
 
@@ -105,11 +107,11 @@ module _ {M : Type 0} (device : Ghosts M) where
       → (begun : IsBegunIn device v new)
       → is_client c ≡ true → seat_of v.system c ≡ Some s → new.kernel ≡ v.system.kernel → new.seats ≡ slice_set v.system.seats (c - 1) (with_copies s copies refused_then)
       → o ≡ outcomes.Reply reply
-      → s.client.log.failed ≡ false → s.client.begun ≡ None
+      → s.life ≡ lives.Alive → s.client.log.failed ≡ false → s.client.begun ≡ None
       → known_to (record s.client { copies = copies }) ≡ with_change (known_to s.client) change
       → IsAnswered (known_to s.client) (holdings_of device s.client) call reply change
       → IsStep device v (Start c call) o (record { system = new; calls = v.calls })
-  answered_as given v new c s copies refused_then call reply change o begun is_c there kernel seats told sound idle knows a =
+  answered_as given v new c s copies refused_then call reply change o begun is_c there kernel seats told alive sound idle knows a =
       let st = begun.stands in
       let w = st.world in
       let p = w.clients c in
@@ -118,7 +120,7 @@ module _ {M : Type 0} (device : Ghosts M) where
       let planned : IsPlanned p.knows call a.new a.operation [] = subst (λ (k : Knowledge). IsPlanned k call a.new a.operation []) (sym own.knows) a.planned in
       let can : CanAnswer w c call a.new a.operation = record {
         client = is_c;
-        alive = own.status ∙ ap status_of sound;
+        alive = own.status ∙ alive_status s.life s.client.log.failed alive sound;
         idle = idle_world device s (calls_of v c) p own idle;
         planned = planned;
         pinned = λ what e. own.pins what.1.inode ∙ a.pinned what e;
@@ -162,11 +164,11 @@ module _ {M : Type 0} (device : Ghosts M) where
       → (begun : IsBegunIn device v new)
       → is_client c ≡ true → seat_of v.system c ≡ Some s → new.kernel ≡ v.system.kernel → new.seats ≡ slice_set v.system.seats (c - 1) (with_copies s copies refused_then)
       → o ≡ outcomes.Reply reply
-      → s.client.log.failed ≡ false → s.client.begun ≡ None
+      → s.life ≡ lives.Alive → s.client.log.failed ≡ false → s.client.begun ≡ None
       → known_to (record s.client { copies = copies }) ≡ with_change (known_to s.client) change
       → IsRefused (known_to s.client) call reply change ⊎ IsAnswered (known_to s.client) (holdings_of device s.client) call reply change
       → IsStep device v (Start c call) o (record { system = new; calls = v.calls })
-  answered_start given v new c s copies refused_then call reply change o begun is_c there kernel seats told sound idle knows ready = elim ready [
+  answered_start given v new c s copies refused_then call reply change o begun is_c there kernel seats told alive sound idle knows ready = elim ready [
     | inl r ↦ refused_as given v new c s copies refused_then call reply change o begun is_c there kernel seats told knows r
-    | inr a ↦ answered_as given v new c s copies refused_then call reply change o begun is_c there kernel seats told sound idle knows a
+    | inr a ↦ answered_as given v new c s copies refused_then call reply change o begun is_c there kernel seats told alive sound idle knows a
   ]

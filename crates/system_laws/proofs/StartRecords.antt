@@ -20,6 +20,7 @@ use Rattle.event_steps.specs.libfs.View.{ClientView}
 use Rattle.event_steps.specs.client_log.HasTurn.{HasTurn}
 use Rattle.event_steps.specs.client_log.Turns.{Turn, record_begun, turn_of}
 use Rattle.event_steps.specs.libfs.declared.begun_record.Begun.{Begun}
+use Rattle.event_steps.specs.libfs.declared.life.Life.TheVariants as lives
 use Rattle.event_steps.specs.log_record.declared.format.Record.{Record}
 use Rattle.event_steps.specs.update_log.Frames.{end_behind}
 use Rattle.event_steps.specs.update_log.View.{RegionView, records_of}
@@ -38,13 +39,14 @@ use Rattle.event_steps.proofs.world_invariant_lemmas.Begins.{begun_holds, begun_
 use Rattle.system_laws.specs.News.{news, with_call}
 use Rattle.system_laws.specs.KeptCalls.{set_call}
 use Rattle.system_laws.specs.Parts.{region_beside, region_of}
-use Rattle.system_laws.specs.Relation.{IsClientOf, StandsMarked, status_of}
+use Rattle.system_laws.specs.Relation.{IsClientOf, StandsMarked}
 use Rattle.system_laws.specs.Steps.{IsBegunIn, IsStep}
 use Rattle.recovery_laws.specs.Contents.{mark_by}
 use Rattle.system_laws.specs.WorldView.{WorldView, calls_of}
 use Rattle.system_laws.proofs.Given.{Given}
 use Rattle.system_laws.proofs.Seated.{own_mark, own_part, seat_step}
 use Rattle.system_laws.proofs.StartReplies.{idle_world}
+use Rattle.system_laws.proofs.Statuses.{alive_status}
 use Rattle.system_laws.proofs.UnfinishedCalls.{set_beside, set_long, set_there}
 
 -- a started call is unfinished from then on
@@ -134,10 +136,10 @@ module _ {M : Type 0} (device : Ghosts M) where
     log_ready : s.client.log.ready ≡ true
     log_ready = ready_of s.client.log.ready (nat_le (end_behind (records_of device s.client.log.current) + 6) REGION_SIZE) (REGION_SIZE - (end_behind (records_of device s.client.log.current) + 6)) ready.room
 
-    pub may_begin : (w : World) (c : ℕ) (old : Option Call) → is_client c ≡ true → s.client.log.failed ≡ false → s.client.begun ≡ None → IsClientOf device s old (w.clients c) → CanBegin w c begun_as
-    may_begin w c old is_c sound idle own = record {
+    pub may_begin : (w : World) (c : ℕ) (old : Option Call) → is_client c ≡ true → s.life ≡ lives.Alive → s.client.log.failed ≡ false → s.client.begun ≡ None → IsClientOf device s old (w.clients c) → CanBegin w c begun_as
+    may_begin w c old is_c alive sound idle own = record {
       client = is_c;
-      alive = own.status ∙ ap status_of sound;
+      alive = own.status ∙ alive_status s.life s.client.log.failed alive sound;
       idle = idle_world device s old (w.clients c) own idle;
       ready = own.turn.is_ready ∙ log_ready;
       planned = subst (λ (k : Knowledge). IsPlanned k call ready.new ready.operation entry.effects) (sym own.knows) ready.planned;
@@ -153,14 +155,14 @@ module _ {M : Type 0} (device : Ghosts M) where
         → IsBegunIn device v new
         → is_client c ≡ true → seat_of v.system c ≡ Some s → new.kernel ≡ v.system.kernel → new.seats ≡ slice_set v.system.seats (c - 1) x
         → o ≡ outcomes.Pending
-        → s.client.log.failed ≡ false → s.client.begun ≡ None
+        → s.life ≡ lives.Alive → s.client.log.failed ≡ false → s.client.begun ≡ None
         → IsStep device v (Start c call) o (record { system = new; calls = set_call v.calls c (Some call) })
-    begun_as_step given v new c o begun is_c there kernel seats told sound idle =
+    begun_as_step given v new c o begun is_c there kernel seats told alive sound idle =
         let st = begun.stands in
         let w = st.world in
         let own = own_part device v w st.accepted st.shared_marks st.cut c s st.is is_c there in
         let mark = own_mark device v w st.accepted st.shared_marks st.cut c s st.is is_c there in
-        let can = may_begin w c (calls_of v c) is_c sound idle own in
+        let can = may_begin w c (calls_of v c) is_c alive sound idle own in
         seat_step device given v new c s x (begun_client (w.clients c)) (set_call v.calls c (Some call)) (Start c call) o w st.accepted st.shared_marks st.cut begun st.is is_c there kernel seats (λ stand. stand)
         (begun_holds w c begun_as st.is.coherent can)
         (set_long v.system v.calls st.is.eight c is_c (Some call))

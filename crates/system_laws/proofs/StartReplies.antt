@@ -1,6 +1,6 @@
 -- A call that is started and answered at once, or needs something: what a client answers without a step of the tree.
 use Rattle.std.proofs.Common.{◌≡◌, inr, ℕ, ◌-◌, ◌<◌, true, false, Option, Some, None, refl, subst, sym, ap, ◌∙◌}
-use Rattle.std.specs.Prelude.{slice_set, IfSome}
+use Rattle.std.specs.Prelude.{slice_set}
 use Rattle.tier_device.specs.declared.media.Media.{Ghosts}
 use Rattle.posix_calls.specs.Operations.{is_client, may_give_up, Step}
 use Rattle.posix_calls.specs.Run.{Run}
@@ -15,7 +15,7 @@ use Rattle.event_steps.specs.world_invariant.Invariant.{IsCoherent}
 use Rattle.event_steps.specs.world_invariant.World.{Client, World, world_state}
 use Rattle.event_steps.specs.world_invariant.World as world
 use Rattle.event_steps.specs.declared.refusals.Refusals.{Refusals}
-use Rattle.event_steps.specs.Turns.{CanPlay, HasTurn}
+use Rattle.event_steps.specs.Turns.{CanPlay}
 use Rattle.event_steps.specs.View.{SeatView, SystemView, seat_of}
 use Rattle.event_steps.specs.declared.event.Event.TheVariants.{Start}
 use Rattle.event_steps.specs.declared.outcome.Outcome.{Outcome}
@@ -29,7 +29,7 @@ use Rattle.recovery_laws.specs.Contents.{mark_by}
 use Rattle.system_laws.specs.WorldView.{WorldView, calls_of}
 use Rattle.system_laws.proofs.Frame.{KeepsSealed}
 use Rattle.system_laws.proofs.Given.{Given}
-use Rattle.system_laws.proofs.OwnSeat.{idle_client}
+use Rattle.system_laws.proofs.OwnSeat.{idle_client, turn_at}
 use Rattle.system_laws.proofs.Seats.{same_seat}
 use Rattle.system_laws.proofs.Seated.{client_on, marked_on, own_mark, own_part, quiet_step, same_world, seat_step}
 
@@ -111,4 +111,4 @@ module _ {M : Type 0} (device : Ghosts M) where
   start_idle v new c call s begun is_c there turn sound =
       let had = begun.holds c is_c in
       let holds : HoldsRecords device s.client = subst (λ (y : SeatView M). HoldsRecords device y.client) (same_seat had.0 s (sym had.1 ∙ there)) had.2 in
-      idle_client device s.client holds (subst (λ (x : Option (SeatView M)). IfSome x (λ t. HasTurn device t (Start c call))) there turn.1) sound
+      idle_client device s.client holds (turn_at device v c s is_c there (Start c call) turn.1).1 sound

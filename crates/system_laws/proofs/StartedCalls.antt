@@ -15,6 +15,7 @@ use Rattle.event_steps.specs.libfs.CallStart.{HasStarted, IsOutOfMemory}
 use Rattle.event_steps.specs.libfs.ClientHoldings.{holdings_of, known_to, outcome_for}
 use Rattle.event_steps.specs.libfs.View.{ClientView}
 use Rattle.event_steps.specs.client_log.Turns.{turn_of}
+use Rattle.event_steps.specs.libfs.declared.life.Life.TheVariants as lives
 use Rattle.event_steps.specs.libfs.declared.now.Now.{Now}
 use Rattle.event_steps.specs.libfs.declared.now.Now.TheVariants as now
 use Rattle.event_steps.specs.log_record.declared.format.Record.{Record}
@@ -30,6 +31,7 @@ use Rattle.system_laws.specs.KeptCalls.{calls_then}
 use Rattle.system_laws.specs.Steps.{IsBegunIn, IsStep}
 use Rattle.system_laws.specs.WorldView.{WorldView}
 use Rattle.system_laws.proofs.Given.{Given}
+use Rattle.system_laws.proofs.OwnSeat.{turn_at}
 use Rattle.system_laws.proofs.Seats.{client_is}
 use Rattle.system_laws.proofs.StartAnswers.{answered_start}
 use Rattle.system_laws.proofs.StartRecords.{begun_as_step}
@@ -59,6 +61,9 @@ module _ {M : Type 0} (device : Ghosts M) where
 
     is : IsStarted device s call o makes.seat_then
     is = makes.makes.0
+
+    alive : s.life ≡ lives.Alive
+    alive = (turn_at device v c s is_c makes.was (Start c call) turn.1).0
 
     -- the client's seat, once its client is this one
     seats_with : (l : ClientView M) → k ≡ l → new.seats ≡ slice_set v.system.seats (c - 1) (record s { client = l; refused = refused_then o s.refused })
@@ -92,7 +97,7 @@ module _ {M : Type 0} (device : Ghosts M) where
         let told : o ≡ outcomes.Reply reply = told_as (now.Done reply) then.0 in
         done (outcomes.Reply reply) told
         (answered_start device given v new c s k.copies (refused_then o s.refused) call reply change o begun is_c makes.was makes.makes.1 (seats_with (record s.client { copies = k.copies }) then.1.rest) told
-        sound (start_idle device v new c call s begun is_c makes.was turn sound) then.1.knows_then (answers s.client call reply change comes))
+        alive sound (start_idle device v new c call s begun is_c makes.was turn sound) then.1.knows_then (answers s.client call reply change comes))
     by_plan (plans.Need need) comes sound then =
         let told : o ≡ outcomes.Need need = told_as (now.Need need) then.0 in
         done (outcomes.Need need) told
@@ -107,7 +112,7 @@ module _ {M : Type 0} (device : Ghosts M) where
         (record { turn = ap (turn_of device) (sym h.log) ∙ h.turn; media = h.media; noted = h.noted.rest; paid = h.paid })
         (record { entry_is = h.entry_is; made_is = h.made_is; change_is = h.change_is; reply_is = h.reply_is })
         (logs s.client call entry reply made change comes)
-        given v new c o begun is_c makes.was makes.makes.1 (seats_with last same) told sound (start_idle device v new c call s begun is_c makes.was turn sound))
+        given v new c o begun is_c makes.was makes.makes.1 (seats_with last same) told alive sound (start_idle device v new c call s begun is_c makes.was turn sound))
 
     pub started : IsDone
     started = by_state s.client.log.failed refl

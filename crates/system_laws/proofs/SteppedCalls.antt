@@ -25,7 +25,9 @@ use Rattle.system_laws.specs.Steps.{IsBegunIn, IsStep}
 use Rattle.system_laws.specs.WorldView.{WorldView}
 use Rattle.system_laws.proofs.CallSteps.{failed, going}
 use Rattle.system_laws.proofs.Given.{Given}
+use Rattle.system_laws.proofs.OwnSeat.{turn_at}
 use Rattle.system_laws.proofs.RepliedCalls.{replied}
+use Rattle.system_laws.proofs.Seats.{client_is}
 use Rattle.system_laws.proofs.StopsNow.{IsSized}
 
 module _ {M : Type 0} (device : Ghosts M) (seen_now : (m : M) (t : Tier) → device.left m (device.moment m) t (device.seen m t)) (sized : IsSized device) (given : Given device)
@@ -44,7 +46,7 @@ module _ {M : Type 0} (device : Ghosts M) (seen_now : (m : M) (t : Tier) → dev
 
   -- a call waits
   waits : is_pending s.client ≡ true
-  waits = subst (λ (y : Option (SeatView M)). IfSome y (λ z. is_pending z.client ≡ true)) makes.was turn.1
+  waits = (turn_at device v c s (client_is c turn.0) makes.was (Step c) turn.1).1
 
   -- with the calls as they were
   quiet : (answer : Option Reply) → made.answer ≡ answer → calls_then v.calls (Step c) (step_outcome answer) ≡ v.calls → IsStep device v (Step c) o (record { system = new; calls = v.calls }) → Stepped

@@ -1,6 +1,6 @@
 -- A device call of a wipe of a client's region.
 use Rattle.std.proofs.Common.{◌≡◌, ◌≢◌, inl, inr, ℕ, ◌+◌, ◌-◌, ◌%◌, ◌<◌, true, false, List, [], Option, Some, None, refl, ap, sym, ◌∙◌, subst, arith}
-use Rattle.std.specs.Prelude.{IfSome, is_err, is_some, slice_set, Result, Ok, Err}
+use Rattle.std.specs.Prelude.{is_err, is_some, slice_set, Result, Ok, Err}
 use Rattle.std.proofs.lemmas.Bool.{false≢true}
 use Rattle.tier_device.specs.declared.media.Media.{Ghosts}
 use Rattle.tier_device.specs.declared.media.Tier.{Tier}
@@ -19,10 +19,11 @@ use Rattle.event_steps.specs.client_log.Turns.{place_of, turn_of}
 use Rattle.event_steps.specs.client_log.declared.error.LogError.{LogError}
 use Rattle.event_steps.specs.client_log.View.{LogView}
 use Rattle.event_steps.specs.layout.declared.marks.Mark.{Mark}
+use Rattle.event_steps.specs.libfs.declared.life.Life.{Life}
 use Rattle.event_steps.specs.world_invariant.ClientSteps.{with_client}
 use Rattle.event_steps.specs.world_invariant.Invariant.{IsCoherent}
 use Rattle.event_steps.specs.world_invariant.Logs.{is_written}
-use Rattle.event_steps.specs.world_invariant.World.{Account, Begun, Client, World, world_state}
+use Rattle.event_steps.specs.world_invariant.World.{Account, Client, World}
 use Rattle.event_steps.specs.world_invariant.World as world
 use Rattle.event_steps.specs.Calls.{CountsOn}
 use Rattle.event_steps.specs.Effects.{MakesAt}
@@ -32,7 +33,6 @@ use Rattle.event_steps.specs.Stops.{SeatLeaves}
 use Rattle.event_steps.specs.View.{SeatView, SystemView}
 use Rattle.event_steps.specs.declared.event.Event.TheVariants.{WipeStep}
 use Rattle.event_steps.specs.declared.outcome.Outcome.{Outcome}
-use Rattle.event_steps.proofs.world_invariant_lemmas.Begins.{turned_holds, turned_tree}
 use Rattle.event_steps.proofs.world_invariant_lemmas.Records.{either}
 use Rattle.event_steps.proofs.world_invariant_lemmas.Regions.{current_wiped_holds, current_wiped_tree, other_wiped_holds, other_wiped_tree}
 use Rattle.system_laws.specs.Parts.{region_of}
@@ -41,12 +41,11 @@ use Rattle.recovery_laws.specs.Contents.{mark_by}
 use Rattle.system_laws.specs.Steps.{IsBegunIn, IsStep}
 use Rattle.system_laws.specs.WorldView.{WorldView, calls_of}
 use Rattle.system_laws.proofs.ClientMoves.{StandsFor, client_moves, kernel_stands, with_part}
-use Rattle.system_laws.proofs.Frame.{KeepsSealed}
 use Rattle.system_laws.proofs.Given.{Given}
-use Rattle.system_laws.proofs.OwnSeat.{client_at, leaves_at, marked_at}
+use Rattle.system_laws.proofs.OwnSeat.{client_at, leaves_at, marked_at, turn_at}
 use Rattle.system_laws.proofs.RegionStops.{RegionsLeft, beside_stays, current_at, left_as, low_remainder, none_beside, other_at, other_remainder, region_world, seat_during, sizes_stay}
 use Rattle.system_laws.proofs.Seats.{client_is}
-use Rattle.system_laws.proofs.Seated.{same_world}
+use Rattle.system_laws.proofs.Statuses.{Stays, as_it_was, fails_then}
 use Rattle.system_laws.proofs.StopLogs.{HoldsSeat}
 use Rattle.system_laws.proofs.StopsNow.{IsSized}
 use Rattle.system_laws.proofs.WorldMoves.{Stood}
@@ -65,43 +64,31 @@ keeps_as {M = M} device o n o' n' old new past =
 
 -- ---- what becomes of the client
 
--- the region that it writes is wiped with the last device call; a device that fails leaves it failed
-abbrev after_current : Result WipeProgress LogError → Client → Client
-after_current (Ok Going) p = p
-after_current (Ok Wiped) p = record p { current = []; ready = true }
-after_current (Err e) p = record p { status = world.Failed }
+-- the region that it writes is wiped with the last device call; a device that fails leaves it failed, unless its call was settled before
+abbrev after_current : Life → Result WipeProgress LogError → Client → Client
+after_current life (Ok Going) p = p
+after_current life (Ok Wiped) p = record p { current = []; ready = true }
+after_current life (Err e) p = record p { status = status_of life true }
 
 -- and so is the other one
-abbrev after_other : Result WipeProgress LogError → Client → Client
-after_other (Ok Going) p = p
-after_other (Ok Wiped) p = record p { sealed = []; other = world.Wiped }
-after_other (Err e) p = record p { status = world.Failed }
+abbrev after_other : Life → Result WipeProgress LogError → Client → Client
+after_other life (Ok Going) p = p
+after_other life (Ok Wiped) p = record p { sealed = []; other = world.Wiped }
+after_other life (Err e) p = record p { status = status_of life true }
 
--- A client's part of which neither the records nor what is sealed changes.
-record Stays (w : World) (c : ℕ) (p : Client) : Type 0 where
-  holds : IsCoherent (with_client w c p)
-  tree : world_state (with_client w c p) ≡ world_state w
-  keeps : KeepsSealed (w.clients c) p
-
-module _ (w : World) (c : ℕ) (h : IsCoherent w) (is_c : is_client c ≡ true) where
-  as_it_was : Stays w c (w.clients c)
-  as_it_was = record { holds = subst IsCoherent (sym (same_world w c)) h; tree = ap world_state (same_world w c); keeps = (refl, refl) }
-
-  failed_then : Stays w c (record (w.clients c) { status = world.Failed })
-  failed_then = record { holds = turned_holds w c world.Failed h is_c refl (λ off. absurd (off refl)); tree = turned_tree w c world.Failed h is_c refl (λ off. absurd (off refl)); keeps = (refl, refl) }
-
-  current_stays : (answer : Result WipeProgress LogError) → (w.clients c).ready ≡ false → Stays w c (after_current answer (w.clients c))
-  current_stays (Ok Going) stale = as_it_was
+module _ (w : World) (c : ℕ) (h : IsCoherent w) (is_c : is_client c ≡ true) (life : Life) (was : (w.clients c).status ≡ status_of life false) where
+  current_stays : (answer : Result WipeProgress LogError) → (w.clients c).ready ≡ false → Stays w c (after_current life answer (w.clients c))
+  current_stays (Ok Going) stale = as_it_was w c h is_c
   current_stays (Ok Wiped) stale = record { holds = current_wiped_holds w c h is_c stale; tree = current_wiped_tree w c h is_c stale; keeps = (refl, refl) }
-  current_stays (Err e) stale = failed_then
+  current_stays (Err e) stale = fails_then w c h is_c life false was
 
   none_back : (w.clients c).other ≡ world.Back → (w.clients c).sealed ≡ []
   none_back back = (h.stands c is_c).marked.none (λ e. let clash : world.Back ≡ world.Away = sym back ∙ e in cc)
 
-  other_stays : (answer : Result WipeProgress LogError) → (w.clients c).other ≡ world.Back → Stays w c (after_other answer (w.clients c))
-  other_stays (Ok Going) back = as_it_was
+  other_stays : (answer : Result WipeProgress LogError) → (w.clients c).other ≡ world.Back → Stays w c (after_other life answer (w.clients c))
+  other_stays (Ok Going) back = as_it_was w c h is_c
   other_stays (Ok Wiped) back = record { holds = other_wiped_holds w c h is_c back; tree = other_wiped_tree w c h is_c back; keeps = (refl, sym (none_back back)) }
-  other_stays (Err e) back = failed_then
+  other_stays (Err e) back = fails_then w c h is_c life false was
 
 -- ---- the seat
 
@@ -119,8 +106,8 @@ module _ {M : Type 0} (device : Ghosts M) (s : SeatView M) (w : World) (c : ℕ)
   abbrev p : Client
   p = w.clients c
 
-  alive : p.status ≡ world.Alive
-  alive = own.status ∙ ap status_of sound
+  running : p.status ≡ status_of s.life false
+  running = own.status ∙ ap (status_of s.life) sound
 
   unbegun : s.client.log.ready ≡ false → change_in p.begun ≡ None
   unbegun stale = ap change_in ((h.stands c is_c).starts.idle (own.turn.is_ready ∙ stale))
@@ -129,23 +116,23 @@ module _ {M : Type 0} (device : Ghosts M) (s : SeatView M) (w : World) (c : ℕ)
   no_records stale = (h.stands c is_c).starts.records (own.turn.is_ready ∙ stale)
 
   -- its turn, where its current region is at that device call
-  turn_current : (r : RegionView M) (answer : Result WipeProgress LogError) → s.client.log.ready ≡ false → records_of device r ≡ [] → r.begun ≡ None → HasTurn (turn_of device (log_after_current s.client.log r answer)) (after_current answer p)
+  turn_current : (r : RegionView M) (answer : Result WipeProgress LogError) → s.client.log.ready ≡ false → records_of device r ≡ [] → r.begun ≡ None → HasTurn (turn_of device (log_after_current s.client.log r answer)) (after_current s.life answer p)
   turn_current r (Ok Going) stale none nothing = record { current = no_records stale; other = own.turn.other; is_ready = own.turn.is_ready ∙ stale; begun = unbegun stale ∙ sym nothing }
   turn_current r (Ok Wiped) stale none nothing = record { current = sym none; other = own.turn.other; is_ready = refl; begun = unbegun stale ∙ sym nothing }
   turn_current r (Err e) stale none nothing = record { current = no_records stale; other = own.turn.other; is_ready = own.turn.is_ready ∙ stale; begun = unbegun stale ∙ sym nothing }
 
-  status_current : (answer : Result WipeProgress LogError) → (after_current answer p).status ≡ status_of (is_err answer)
-  status_current (Ok Going) = alive
-  status_current (Ok Wiped) = alive
+  status_current : (answer : Result WipeProgress LogError) → (after_current s.life answer p).status ≡ status_of s.life (is_err answer)
+  status_current (Ok Going) = running
+  status_current (Ok Wiped) = running
   status_current (Err e) = refl
 
-  client_current : (r : RegionView M) (answer : Result WipeProgress LogError) → HasTurn (turn_of device (log_after_current s.client.log r answer)) (after_current answer p) → (after_current answer p).status ≡ status_of (is_err answer)
-      → IsClientOf device (with_log s (log_after_current s.client.log r answer)) call (after_current answer p)
+  client_current : (r : RegionView M) (answer : Result WipeProgress LogError) → HasTurn (turn_of device (log_after_current s.client.log r answer)) (after_current s.life answer p) → (after_current s.life answer p).status ≡ status_of s.life (is_err answer)
+      → IsClientOf device (with_log s (log_after_current s.client.log r answer)) call (after_current s.life answer p)
   client_current r (Ok Going) turn status = record { knows = own.knows; turn = turn; sealed = own.sealed; begun = own.begun; reads_are = own.reads_are; writes_are = own.writes_are; spare = own.spare; pins = own.pins; status = status }
   client_current r (Ok Wiped) turn status = record { knows = own.knows; turn = turn; sealed = own.sealed; begun = own.begun; reads_are = own.reads_are; writes_are = own.writes_are; spare = own.spare; pins = own.pins; status = status }
   client_current r (Err e) turn status = record { knows = own.knows; turn = turn; sealed = own.sealed; begun = own.begun; reads_are = own.reads_are; writes_are = own.writes_are; spare = own.spare; pins = own.pins; status = status }
 
-  marked_current : (r : RegionView M) (answer : Result WipeProgress LogError) (m : Mark) (a : Account) (accepted : ℕ) → StandsMarked m s a accepted p → StandsMarked m (with_log s (log_after_current s.client.log r answer)) a accepted (after_current answer p)
+  marked_current : (r : RegionView M) (answer : Result WipeProgress LogError) (m : Mark) (a : Account) (accepted : ℕ) → StandsMarked m s a accepted p → StandsMarked m (with_log s (log_after_current s.client.log r answer)) a accepted (after_current s.life answer p)
   marked_current r (Ok Going) m a accepted is = record { mark = is.mark; digested = is.digested; accepts = is.accepts; held = is.held }
   marked_current r (Ok Wiped) m a accepted is = record { mark = is.mark; digested = is.digested; accepts = is.accepts; held = is.held }
   marked_current r (Err e) m a accepted is = record { mark = is.mark; digested = is.digested; accepts = is.accepts; held = is.held }
@@ -155,19 +142,19 @@ module _ {M : Type 0} (device : Ghosts M) (s : SeatView M) (w : World) (c : ℕ)
     back = own.turn.other ∙ ap region_at (ap (λ (x : Option (RegionView M)). place_of x s.client.log.clean) was ∙ ap (place_of (Some o)) unclean)
 
     none_sealed : p.sealed ≡ []
-    none_sealed = none_back w c h is_c back
+    none_sealed = none_back w c h is_c s.life running back
 
-    turn_other : (r : RegionView M) (answer : Result WipeProgress LogError) → HasTurn (turn_of device (log_after_other s.client.log r answer)) (after_other answer p)
+    turn_other : (r : RegionView M) (answer : Result WipeProgress LogError) → HasTurn (turn_of device (log_after_other s.client.log r answer)) (after_other s.life answer p)
     turn_other r (Ok Going) = record { current = own.turn.current; other = back; is_ready = own.turn.is_ready; begun = own.turn.begun }
     turn_other r (Ok Wiped) = record { current = own.turn.current; other = refl; is_ready = own.turn.is_ready; begun = own.turn.begun }
     turn_other r (Err e) = record { current = own.turn.current; other = back; is_ready = own.turn.is_ready; begun = own.turn.begun }
 
-    client_other : (r : RegionView M) (answer : Result WipeProgress LogError) → HasTurn (turn_of device (log_after_other s.client.log r answer)) (after_other answer p) → IsClientOf device (with_log s (log_after_other s.client.log r answer)) call (after_other answer p)
-    client_other r (Ok Going) turn = record { knows = own.knows; turn = turn; sealed = own.sealed; begun = own.begun; reads_are = own.reads_are; writes_are = own.writes_are; spare = own.spare; pins = own.pins; status = alive }
-    client_other r (Ok Wiped) turn = record { knows = own.knows; turn = turn; sealed = sym none_sealed ∙ own.sealed; begun = own.begun; reads_are = own.reads_are; writes_are = own.writes_are; spare = own.spare; pins = own.pins; status = alive }
+    client_other : (r : RegionView M) (answer : Result WipeProgress LogError) → HasTurn (turn_of device (log_after_other s.client.log r answer)) (after_other s.life answer p) → IsClientOf device (with_log s (log_after_other s.client.log r answer)) call (after_other s.life answer p)
+    client_other r (Ok Going) turn = record { knows = own.knows; turn = turn; sealed = own.sealed; begun = own.begun; reads_are = own.reads_are; writes_are = own.writes_are; spare = own.spare; pins = own.pins; status = running }
+    client_other r (Ok Wiped) turn = record { knows = own.knows; turn = turn; sealed = sym none_sealed ∙ own.sealed; begun = own.begun; reads_are = own.reads_are; writes_are = own.writes_are; spare = own.spare; pins = own.pins; status = running }
     client_other r (Err e) turn = record { knows = own.knows; turn = turn; sealed = own.sealed; begun = own.begun; reads_are = own.reads_are; writes_are = own.writes_are; spare = own.spare; pins = own.pins; status = refl }
 
-    marked_other : (r : RegionView M) (answer : Result WipeProgress LogError) (m : Mark) (a : Account) (accepted : ℕ) → StandsMarked m s a accepted p → StandsMarked m (with_log s (log_after_other s.client.log r answer)) a accepted (after_other answer p)
+    marked_other : (r : RegionView M) (answer : Result WipeProgress LogError) (m : Mark) (a : Account) (accepted : ℕ) → StandsMarked m s a accepted p → StandsMarked m (with_log s (log_after_other s.client.log r answer)) a accepted (after_other s.life answer p)
     marked_other r (Ok Going) m a accepted is = record { mark = is.mark; digested = is.digested; accepts = is.accepts; held = is.held }
     marked_other r (Ok Wiped) m a accepted is = record {
       mark = is.mark;
@@ -200,7 +187,7 @@ module _ {M : Type 0} (device : Ghosts M) (seen_now : (m : M) (t : Tier) → dev
   is_c = client_is c turn.0
 
   its_turn : (log_view.failed ≡ false) × IsToBeWiped s.client
-  its_turn = subst (λ (x : Option (SeatView M)). IfSome x (λ y. (y.client.log.failed ≡ false) × IsToBeWiped y.client)) makes.was turn.1
+  its_turn = (turn_at device v c s is_c makes.was (WipeStep c) turn.1).1
 
   own : IsClientOf device s (calls_of v c) (w.clients c)
   own = client_at device v c s is_c makes.was z begun.stands.is
@@ -210,6 +197,9 @@ module _ {M : Type 0} (device : Ghosts M) (seen_now : (m : M) (t : Tier) → dev
 
   leaves : SeatLeaves device s
   leaves = leaves_at device v c s is_c makes.was begun.leaves
+
+  was : (w.clients c).status ≡ status_of s.life false
+  was = running device s w c (calls_of v c) is_c begun.stands.is.coherent own its_turn.0
 
   -- with the log of the client's as it is now, on one region of which the call was made
   module _ (log_then : LogView M) (p : Client) (r : ℕ) (small : r < 2) (is_log : makes.seat_then.client.log ≡ log_then) (stays : Stays w c p) where
@@ -244,8 +234,8 @@ module _ {M : Type 0} (device : Ghosts M) (seen_now : (m : M) (t : Tier) → dev
       let r = makes.seat_then.client.log.current in
       let y : SeatView M = with_log s (log_after_current log_view r d.answer) in
       let its = turn_current device s w c (calls_of v c) is_c begun.stands.is.coherent own its_turn.0 r d.answer stale d.call.none d.call.nothing in
-      wiped_so (log_after_current log_view r d.answer) (after_current d.answer (w.clients c)) (log_view.generation % 2) (low_remainder log_view.generation) d.rest
-      (current_stays w c begun.stands.is.coherent is_c d.answer (own.turn.is_ready ∙ stale))
+      wiped_so (log_after_current log_view r d.answer) (after_current s.life d.answer (w.clients c)) (log_view.generation % 2) (low_remainder log_view.generation) d.rest
+      (current_stays w c begun.stands.is.coherent is_c s.life was d.answer (own.turn.is_ready ∙ stale))
       (λ q small off. ap (λ (x : RegionView M). x.media) (beside_stays device s y leaves.seated refl refl refl q (λ e. off (sym e))))
       (keeps_as device (region_of s (log_view.generation % 2)) (region_of y (log_view.generation % 2)) log_view.current r (current_at s) (current_at y) d.call.moved.past)
       (client_current device s w c (calls_of v c) is_c begun.stands.is.coherent own its_turn.0 r d.answer its (status_current device s w c (calls_of v c) is_c begun.stands.is.coherent own its_turn.0 d.answer))
@@ -258,16 +248,16 @@ module _ {M : Type 0} (device : Ghosts M) (seen_now : (m : M) (t : Tier) → dev
       let y : SeatView M = with_log s (log_after_other log_view d.beside d.answer) in
       let n : ℕ = next_generation log_view.generation % 2 in
       let off : log_view.generation % 2 ≢ n = λ e. other_remainder log_view.generation (sym e) in
-      let was : region_of s n ≡ r = other_at s n r off is in
+      let at : region_of s n ≡ r = other_at s n r off is in
       let then : region_of y n ≡ d.beside = other_at y n d.beside off refl in
-      wiped_so (log_after_other log_view d.beside d.answer) (after_other d.answer (w.clients c)) n (low_remainder (next_generation log_view.generation)) d.rest
-      (other_stays w c begun.stands.is.coherent is_c d.answer (back device s w c (calls_of v c) is_c begun.stands.is.coherent own its_turn.0 r is unclean))
+      wiped_so (log_after_other log_view d.beside d.answer) (after_other s.life d.answer (w.clients c)) n (low_remainder (next_generation log_view.generation)) d.rest
+      (other_stays w c begun.stands.is.coherent is_c s.life was d.answer (back device s w c (calls_of v c) is_c begun.stands.is.coherent own its_turn.0 r is unclean))
       (λ q small beside. let at = first_of_two log_view.generation q small beside in ap (λ (x : RegionView M). x.media) (ap (region_of y) at ∙ current_at y ∙ sym (ap (region_of s) at ∙ current_at s)))
-      (keeps_as device (region_of s n) (region_of y n) r d.beside was then d.call.moved.past)
+      (keeps_as device (region_of s n) (region_of y n) r d.beside at then d.call.moved.past)
       (client_other device s w c (calls_of v c) is_c begun.stands.is.coherent own its_turn.0 r is unclean d.beside d.answer (turn_other device s w c (calls_of v c) is_c begun.stands.is.coherent own its_turn.0 r is unclean d.beside d.answer))
       (marked_other device s w c (calls_of v c) is_c begun.stands.is.coherent own its_turn.0 r is unclean d.beside d.answer (mark_by (Some z.marks) c) (w.kernel.accounts c) (z.accepted c) mark)
       (λ counts. seat_during device s y leaves counts refl refl (λ gone. absurd (let clash : Some r ≡ None = sym is ∙ gone in cc))
-      (λ regions left here. d.call.any_moment (regions n) (left_as device regions n (region_of s n) (region_of y n) r d.beside was then (left n (low_remainder (next_generation log_view.generation))))))
+      (λ regions left here. d.call.any_moment (regions n) (left_as device regions n (region_of s n) (region_of y n) r d.beside at then (left n (low_remainder (next_generation log_view.generation))))))
 
   pub wiped : IsStep device v (WipeStep c) o (record { system = new; calls = v.calls })
   wiped = elim its_turn.1 [

@@ -1,6 +1,5 @@
 -- Trusted: headline
 -- The clocks of a running system's parts, and what a stop may have left of each.
-use Rattle.std.specs.Prelude.{ℕ}
 use Rattle.tier_device.specs.declared.media.Media.{Ghosts}
 use Rattle.tier_device.specs.AfterStop.{Left}
 use Rattle.event_steps.specs.View.{SystemView}

@@ -18,6 +18,7 @@ use Rattle.event_steps.specs.update_log.View.{HasSize, RegionView}
 use Rattle.event_steps.specs.client_log.Steps.{IsOpened}
 use Rattle.event_steps.specs.world_invariant.Limits.{AreWithin}
 use Rattle.event_steps.specs.libfs.NewClient.{IsBlank, IsNew}
+use Rattle.event_steps.specs.libfs.declared.life.Life.TheVariants as lives
 use Rattle.event_steps.specs.Refusals.{no_refusals}
 use Rattle.event_steps.specs.View.{HasSeat, SeatView, SystemView}
 use Rattle.recovery_laws.specs.Contents.{mark_by}
@@ -37,6 +38,7 @@ module _ {M : Type 0} (device : Ghosts M) where
   pub record IsIdleSeat (m : Mark) (c : ℕ) (s : SeatView M) : Type 0 where
     pub before : m.done ≡ 0
     pub home : s.away ≡ None
+    pub alive : s.life ≡ lives.Alive
     -- it was refused nothing yet
     pub unrefused : s.refused ≡ no_refusals
     pub number : client_of s.client.pass ≡ c

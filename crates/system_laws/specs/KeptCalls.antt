@@ -18,6 +18,7 @@ abbrev pub calls_then : List (Option Call) → Event → Outcome → List (Optio
 calls_then calls (event.Start client call) outcomes.Pending = set_call calls client (Some call)
 calls_then calls (event.Step client) (outcomes.Reply (replies.Failed IoError)) = calls
 calls_then calls (event.Step client) (outcomes.Reply reply) = set_call calls client None
+calls_then calls (event.Settle client) (outcomes.Settled fate) = set_call calls client None
 calls_then calls _ _ = calls
 
 -- no call is started by any client

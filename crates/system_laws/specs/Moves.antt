@@ -16,10 +16,11 @@ pub record MovesRegion (client : ℕ) (old new : Reading) : Type 0 where
   pub moves : MovesOnly (part_of client region) old new
   pub one : new (part_of client region) ≤ old (part_of client region) + 1
 
--- A step and a wipe step move a region of their client; a digest, a reclaim and a migration the shared medium; no other event moves a part.
+-- A step, a wipe step and a settling move a region of their client; a digest, a reclaim and a migration the shared medium; no other event moves a part.
 abbrev pub EventMoves : Event → Reading → Reading → Type 0
 EventMoves (event.Step c) old new = MovesRegion c old new
 EventMoves (event.WipeStep c) old new = MovesRegion c old new
+EventMoves (event.Settle c) old new = MovesRegion c old new
 EventMoves (event.Digest c) old new = MovesOnly 0 old new
 EventMoves (event.Reclaim i) old new = MovesOnly 0 old new
 EventMoves (event.Migrate i first count to) old new = MovesOnly 0 old new

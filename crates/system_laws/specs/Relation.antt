@@ -23,6 +23,8 @@ use Rattle.event_steps.specs.kernel_fs.Book.{IsBookOf}
 use Rattle.event_steps.specs.kernel_fs.MachineState.{IsKernelOf}
 use Rattle.event_steps.specs.libfs.ClientHoldings.{known_to}
 use Rattle.event_steps.specs.libfs.declared.begun_record.Begun.{Begun}
+use Rattle.event_steps.specs.libfs.declared.life.Life.{Life}
+use Rattle.event_steps.specs.libfs.declared.life.Life.TheVariants as lives
 use Rattle.event_steps.specs.world_invariant.Invariant.{IsCoherent}
 use Rattle.event_steps.specs.world_invariant.KernelSteps.{CanDigest, CanReclaim, records_digested}
 use Rattle.event_steps.specs.world_invariant.Logs.{is_written}
@@ -38,9 +40,12 @@ use Rattle.system_laws.specs.WorldView.{WorldView, calls_of}
 
 -- ---- a client
 
-abbrev pub status_of : Bool → Status
-status_of false = world.Alive
-status_of true = world.Failed
+-- by how far its life has come, and whether a device of it has failed; once its call is settled a failure changes no more
+abbrev pub status_of : Life → Bool → Status
+status_of lives.Alive failed = if failed then world.Failed else world.Alive
+status_of lives.Dead failed = if failed then world.Failed else world.Dead
+status_of (lives.Settled found) failed = world.Settled
+status_of (lives.Buried found) failed = world.Buried
 
 -- The call whose record is begun, with its operation, and the number of a node that it makes.
 pub record IsBegunBy (call : Option Call) (b : Begun) (x : world.Begun) : Type 0 where
@@ -64,7 +69,7 @@ pub record IsClientOf {M : Type 0} (device : Ghosts M) (s : SeatView M) (call : 
   pub writes_are : (i : ℕ) → p.writes i ≡ writes s.client.pass i
   pub spare : p.spare ≡ s.client.spare
   pub pins : (i : ℕ) → p.pins i ≡ is_among i s.client.pins
-  pub status : p.status ≡ status_of s.client.log.failed
+  pub status : p.status ≡ status_of s.life s.client.log.failed
 
 -- ---- where its mark stands
 

@@ -1,10 +1,8 @@
 -- The file tree that a running system stands for.
-use Rattle.std.specs.Prelude.{ℕ, ◌-◌, ◌==◌, List, [], ◌++◌, drop, get_or, Option, Some, None, if◌then◌else◌}
+use Rattle.std.specs.Prelude.{ℕ, ◌==◌, List, [], ◌++◌, drop, Option, Some, None, if◌then◌else◌}
 use Rattle.tier_device.specs.declared.media.Media.{Ghosts}
 use Rattle.posix_calls.specs.Tree.{Descriptors, State}
 use Rattle.posix_calls.specs.Operations.{is_client}
-use Rattle.posix_calls.specs.Outcome.{Unfinished}
-use Rattle.posix_calls.specs.declared.call.Call.{Call}
 use Rattle.posix_calls.specs.declared.descriptor.Descriptor.{Descriptor}
 use Rattle.posix_calls.specs.declared.limits.TheConstants.{MAX_CLIENTS}
 use Rattle.event_steps.specs.file_graph.Graph.{Graph}

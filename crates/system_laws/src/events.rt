@@ -13,6 +13,10 @@ ghost use Rattle.system_laws.specs.KeptCalls.{calls_then};
 ghost use Rattle.system_laws.specs.Steps.{IsBegunIn, IsStep};
 ghost use Rattle.system_laws.specs.WorldView.{WorldView};
 
+use crate::deaths::{
+    buried_client_is_a_step, dead_client_is_a_step, joined_client_is_a_step,
+    settled_client_is_a_step,
+};
 use crate::denials::denied_call_is_a_step;
 use crate::device_calls::stepped_call_is_a_step;
 use crate::idle::idle_event_is_a_step;
@@ -58,4 +62,8 @@ pub fn played_event_is_a_step<M: Media>()
     wiped_region_is_a_step::<M>();
     reclaimed_file_is_a_step::<M>();
     migrated_run_is_a_step::<M>();
+    dead_client_is_a_step::<M>();
+    settled_client_is_a_step::<M>();
+    buried_client_is_a_step::<M>();
+    joined_client_is_a_step::<M>();
 }

@@ -13,6 +13,7 @@
 //! There is no code: these are laws, cited by what plays events on a world.
 #![tactic(auto)]
 
+mod deaths;
 mod denials;
 mod device_calls;
 mod events;
@@ -24,6 +25,10 @@ mod regions;
 mod requests;
 mod starts;
 
+pub use deaths::{
+    buried_client_is_a_step, dead_client_is_a_step, joined_client_is_a_step,
+    settled_client_is_a_step,
+};
 pub use denials::denied_call_is_a_step;
 pub use device_calls::stepped_call_is_a_step;
 pub use events::played_event_is_a_step;
@@ -87,7 +92,7 @@ pub mod in_lease_manager {
 
 /// Of `libfs`, what the crates above name.
 pub mod in_libfs {
-    pub use event_steps::in_libfs::{Client, Denied};
+    pub use event_steps::in_libfs::{Client, Denied, Found, Life};
 }
 
 /// Of `log_record`, what the crates above name.

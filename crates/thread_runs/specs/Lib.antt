@@ -1,3 +1,4 @@
+pub mod DeathWords
 pub mod FirstPath
 pub mod RunOptions
 pub mod StopWords

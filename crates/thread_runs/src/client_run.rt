@@ -1,43 +1,40 @@
+use crate::burial::Burial;
 use crate::client_tree::ClientTree;
 use crate::draws::Draws;
 use crate::options::Options;
 use crate::region_stops::{RegionStops, RunMedium};
 use crate::run_end::RunEnd;
+use crate::seat::Seat;
 use crate::turns::{log_lines, turn_lines};
 use posix_calls::{Call, Errno, Reply};
 use script::{Line, RunError, read_line, write_reply};
 use std::alloc::Global;
 use std::sync::Wait;
-use strata_threads::{OpenGate, SharedKernel, ThreadClient};
-
-// Turns that a call is given.
-const TURNS: u64 = 1_000;
+use strata_threads::SharedKernel;
+use strata_threads::in_libfs::Fate;
 
 // How often calls are asked again within a turn.
 const RETRIES: u32 = 1_000;
 
-// In how many rounds a log is to be digested.
-const ROUNDS: u64 = 1_000_000;
-
-/// A client that makes calls, beside a plain tree that is asked the same. Both are lent, so that what a run owns is given up in one place.
+/// A seat whose client makes calls, beside a plain tree that is asked the same. Both are lent, so that what a run owns is given up in one place.
 #[derive(Drop)]
 pub struct ClientRun<'a> {
-    pub client: &'a mut ThreadClient<RunMedium>,
+    pub seat: &'a mut Seat,
     pub tree: &'a mut ClientTree,
     // How often calls may be asked again in this turn.
     retries: u32,
 }
 
-/// The runs of these clients, each beside its tree.
+/// The runs of the clients of these seats, each beside its tree.
 pub(crate) fn runs_of<'a>(
     alloc: Global,
-    clients: &'a mut [ThreadClient<RunMedium>],
+    seats: &'a mut [Seat],
     trees: &'a mut [ClientTree],
 ) -> Result<Vec<ClientRun<'a>>, RunError> {
     let mut runs = Vec::new(alloc);
-    for (client, tree) in clients.iter_mut().zip(trees.iter_mut()) {
+    for (seat, tree) in seats.iter_mut().zip(trees.iter_mut()) {
         runs.push(ClientRun {
-            client,
+            seat,
             tree,
             retries: RETRIES,
         })?;
@@ -46,7 +43,7 @@ pub(crate) fn runs_of<'a>(
 }
 
 impl ClientRun<'_> {
-    /// Makes all turns; then its log is digested, and it gives all leases back. Where a region stops it ends there.
+    /// Makes all turns; then its log is digested, and it gives all leases back. Where a region stops it ends there, and where its client dies and was buried, which is judged.
     pub(crate) fn make_turns<R: Wait>(
         &mut self,
         rt: &R,
@@ -64,6 +61,9 @@ impl ClientRun<'_> {
                 }
             }
         }
+        if let Some(burial) = self.seat.burial.take() {
+            self.tree.end_burial(options.turns, burial);
+        }
         if !self.tree.has_stopped() {
             self.leave(rt, shared);
         }
@@ -71,8 +71,7 @@ impl ClientRun<'_> {
 
     /// Has its log digested, and gives all leases back.
     pub(crate) fn leave<R: Wait>(&mut self, rt: &R, shared: &SharedKernel<RunMedium>) {
-        let _ = self.client.clear_log(rt, shared, ROUNDS);
-        self.client.give_all();
+        self.seat.leave(rt, shared);
     }
 
     fn make_turn<R: Wait>(
@@ -120,27 +119,29 @@ impl ClientRun<'_> {
         line: &str,
     ) -> Result<bool, RunEnd> {
         let call = call_of(self.tree.alloc, line)?;
-        let reply = self.answer_call(rt, shared, stops, &call);
-        self.tree.take_reply(stops, line, &call, &reply)
+        match self.answer_call(rt, shared, stops, &call) {
+            Some(reply) => self.tree.take_reply(stops, line, &call, &reply),
+            None => self.tree.end_at(line, RunEnd::Died),
+        }
     }
 
-    // What is wanting may come: the call is asked again once the client's log is digested.
+    // What is wanting may come: the call is asked again once the client's log is digested. `None` where the client died.
     fn answer_call<R: Wait>(
         &mut self,
         rt: &R,
         shared: &SharedKernel<RunMedium>,
         stops: &RegionStops,
         call: &Call,
-    ) -> Reply {
+    ) -> Option<Reply> {
         for _ in 0..self.retries {
-            let reply = self.client.posix(rt, shared, call, TURNS, &OpenGate);
+            let reply = self.seat.answer(rt, shared, call)?;
             if !is_wanting(&reply) || is_unanswered(&reply, self.tree.number, stops) {
-                return reply;
+                return Some(reply);
             }
             self.retries = self.retries.saturating_sub(1);
-            let _ = self.client.clear_log(rt, shared, ROUNDS);
+            self.seat.clear_log(rt, shared);
         }
-        self.client.posix(rt, shared, call, TURNS, &OpenGate)
+        self.seat.answer(rt, shared, call)
     }
 }
 
@@ -154,15 +155,57 @@ impl ClientTree {
         reply: &Reply,
     ) -> Result<bool, RunEnd> {
         if is_unanswered(reply, self.number, stops) {
-            return self.stop_at(line);
+            return self.end_at(line, RunEnd::Stopped);
         }
         self.judge(call, reply)
     }
 
-    // The call that a stop left without an answer is not asked of the tree.
-    fn stop_at(&mut self, line: &str) -> Result<bool, RunEnd> {
+    // The call that a stop or a death left without an answer is not asked of the tree.
+    fn end_at(&mut self, line: &str, why: RunEnd) -> Result<bool, RunEnd> {
         self.unanswered = Some(String::from_str(self.alloc, line)?);
-        Err(RunEnd::Stopped)
+        Err(why)
+    }
+
+    // Judges what became of the call of a client that died, or notes why it could not be buried. A run that a difference, a stop or a fault has ended before stays ended so.
+    fn end_burial(&mut self, turns: u64, burial: Burial) {
+        let turn = match self.end {
+            Some((turn, RunEnd::Died)) => turn,
+            Some(_) => return,
+            None => turns,
+        };
+        if let Err(why) = self.judge_burial(burial) {
+            self.end = Some((turn, why));
+        }
+    }
+
+    fn judge_burial(&mut self, burial: Burial) -> Result<(), RunEnd> {
+        let Burial { fate, refused } = burial;
+        self.judge_found(fate)?;
+        match refused {
+            Some(why) => Err(why),
+            None => Ok(()),
+        }
+    }
+
+    fn judge_found(&mut self, fate: Option<Fate>) -> Result<(), RunEnd> {
+        match fate {
+            Some(fate) => self.judge_fate(fate),
+            None => Ok(()),
+        }
+    }
+
+    // A call that was found whole is asked of the tree, and has to do the same there; a call that is gone is not.
+    fn judge_fate(&mut self, fate: Fate) -> Result<(), RunEnd> {
+        let line = self.unanswered.take();
+        let Fate::Whole { reply } = fate else {
+            return Ok(());
+        };
+        let Some(line) = line else {
+            return Err(RunEnd::Fault(RunError::Damaged));
+        };
+        let call = call_of(self.alloc, &line)?;
+        let _ = self.judge(&call, &reply)?;
+        Ok(())
     }
 
     // Asks the tree what the client was asked, and answers whether it refuses; both have to do the same.

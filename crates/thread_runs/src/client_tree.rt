@@ -14,7 +14,7 @@ pub struct ClientTree {
     pub tree: PlainTree,
     /// The turn at which the run ended before its last one, and why.
     pub end: Option<(u64, RunEnd)>,
-    /// The line of the call that a stop left without an answer.
+    /// The line of the call that a stop or a death left without an answer.
     pub unanswered: Option<String>,
 }
 

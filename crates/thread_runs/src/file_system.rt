@@ -9,6 +9,7 @@ ghost use Rattle.recovery.specs.area_recovery.Parts.{AreAtRest, part_medium};
 ghost use Rattle.call_driver.specs.event_steps.Sound.{AreSeats};
 
 use crate::region_stops::{RegionStops, RunMedium};
+use crate::seat::{Seat, seats_of};
 use call_driver::in_event_steps::ClientSlot;
 use call_driver::in_interleavings::World;
 use recovery::in_area_recovery::RecoveryError;
@@ -19,12 +20,39 @@ use script::in_update_log::{REGION_SIZE, Region};
 use std::alloc::Global;
 use std::sync::Wait;
 use strata_threads::in_layout::{CLIENTS, Geometry};
-use strata_threads::in_libfs::{Client, SealedRegion};
-use strata_threads::{ThreadClient, ThreadSet};
+use strata_threads::in_libfs::{Client, Detached, SealedRegion};
+use strata_threads::{SharedKernel, ThreadRemains, ThreadSet, Worker};
 use tier_device::{Media, MemMedia, StopMedia};
 
 // Data blocks of the three tiers.
 const BLOCKS: [u32; 3] = [512, 1_024, 1_024];
+
+/// What the threads of a run are given.
+#[derive(Drop)]
+pub struct RunSet {
+    pub shared: SharedKernel<RunMedium>,
+    pub seats: Vec<Seat>,
+    pub workers: Vec<Worker<RunMedium>>,
+}
+
+/// The same with a seat for each client.
+pub(crate) fn fresh_run_set(
+    alloc: Global,
+    units: u32,
+    workers: usize,
+    stops: &mut RegionStops,
+) -> Result<RunSet, RunError> {
+    let ThreadSet {
+        shared,
+        clients,
+        workers,
+    } = fresh_set(alloc, units, workers, stops)?;
+    Ok(RunSet {
+        shared,
+        seats: seats_of(alloc, clients)?,
+        workers,
+    })
+}
 
 /// The empty file system over media in memory, for eight clients and `workers` workers. The counts of its regions are added to `stops`, not armed.
 pub(crate) fn fresh_set(
@@ -69,7 +97,7 @@ fn clients_of(
 {
     let mut clients = room;
     for seat in seats {
-        let (client, _) = seat.into_parts();
+        let (client, _, _) = seat.into_parts();
         clients.push_reserved(client);
     }
     clients
@@ -158,38 +186,54 @@ fn parts_of(shared: RunMedium, regions: Vec<RunMedium>) -> Result<Parts<RunMediu
 /// The world that is recovered from what the media of a set hold behind a stop.
 pub(crate) fn recover_set<R: Wait + AllocGlobal>(
     rt: &R,
-    set: ThreadSet<RunMedium>,
+    set: RunSet,
 ) -> Result<World<RunMedium>, RunError> {
-    let ThreadSet {
-        shared,
-        clients,
-        ..
-    } = set;
+    let RunSet { shared, seats, .. } = set;
     let shared = shared.into_kernel().into_area().into_medium();
-    recover_media(rt.alloc(), shared, region_media(rt, clients)?)
+    recover_media(rt.alloc(), shared, region_media(rt, seats)?)
 }
 
-/// The media of all clients' regions, client by client and the even one first.
+/// The media of all seats' regions, seat by seat and the even one first.
 pub(crate) fn region_media<R: Wait + AllocGlobal>(
     rt: &R,
-    clients: Vec<ThreadClient<RunMedium>>,
+    seats: Vec<Seat>,
 ) -> Result<Vec<RunMedium>, RunError> {
     let mut media = Vec::new(rt.alloc());
-    for client in clients {
-        add_regions(rt, &mut media, client)?;
+    for seat in seats {
+        add_seat(rt, &mut media, seat)?;
     }
     Ok(media)
 }
 
-// Adds the media of a client's two regions, the even one first. One may be on its way back to it.
-fn add_regions<R: Wait>(
+// Adds the media of the two regions of whoever has a seat, or of what its client left, the even one first. One may be on its way back.
+fn add_seat<R: Wait>(rt: &R, media: &mut Vec<RunMedium>, seat: Seat) -> Result<(), RunError> {
+    let (client, remains) = seat.into_parts();
+    let Some(client) = client else {
+        return add_remains(rt, media, remains);
+    };
+    let (client, away) = client.into_parts(rt);
+    add_regions(media, client.detach(), away)
+}
+
+fn add_remains<R: Wait>(
     rt: &R,
     media: &mut Vec<RunMedium>,
-    client: ThreadClient<RunMedium>,
+    remains: Option<ThreadRemains<RunMedium>>,
 ) -> Result<(), RunError> {
-    let (client, away) = client.into_parts(rt);
+    let Some(remains) = remains else {
+        return Err(RunError::Damaged);
+    };
+    let (remains, away) = remains.into_parts(rt);
+    add_regions(media, remains.detach(), away)
+}
+
+fn add_regions(
+    media: &mut Vec<RunMedium>,
+    left: Detached<RunMedium>,
+    away: Option<SealedRegion<RunMedium>>,
+) -> Result<(), RunError> {
     let mut away = away;
-    let (even, odd) = client.detach().regions;
+    let (even, odd) = left.regions;
     media.push(medium_of(even, &mut away)?)?;
     media.push(medium_of(odd, &mut away)?)?;
     Ok(())

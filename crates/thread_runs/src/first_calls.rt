@@ -3,6 +3,7 @@ use crate::client_run::call_of;
 use crate::file_system::{fresh_set, region_media};
 use crate::region_stops::{RegionStop, RegionStops, RunMedium};
 use crate::run::work;
+use crate::seat::seats_of;
 use crate::shared_graph::{apply_answered, first_graph};
 use plain_tree::in_file_graph::PlainGraph;
 use posix_calls::{Errno, Reply};
@@ -192,7 +193,7 @@ fn take_regions<R: Wait + AllocGlobal>(
     rt: &R,
     clients: Vec<ThreadClient<RunMedium>>,
 ) -> Result<(RunMedium, RunMedium), RunError> {
-    let mut regions = region_media(rt, clients)?;
+    let mut regions = region_media(rt, seats_of(rt.alloc(), clients)?)?;
     if regions.len() <= SECOND_REGION {
         return Err(RunError::Damaged);
     }

@@ -4,8 +4,10 @@
 //! the run stops, and a recovery of its own replays what both logs hold. Where a stop is asked for each region stops within a write or fence of its own.
 #![tactic(auto)]
 
+mod burial;
 mod client_run;
 mod client_tree;
+mod death;
 mod draws;
 mod file_system;
 mod first_calls;
@@ -17,6 +19,7 @@ mod recovered_tree;
 mod region_stops;
 mod run;
 mod run_end;
+mod seat;
 mod shared_graph;
 mod stop_words;
 mod turns;

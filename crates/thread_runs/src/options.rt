@@ -3,6 +3,7 @@ ghost use Rattle.std.specs.Prelude.{IfErr, IfOk};
 ghost use Rattle.command_line.specs.Options.{Asks, IsValue, rows};
 ghost use Rattle.thread_runs.specs.RunOptions.{AreRunOptions, HasBadRun, run};
 
+use crate::death::{DIE, Death, death_asked};
 use crate::region_stops::RegionStop;
 use crate::stop_words::{FILL, STOP, stop_in};
 use command_line::{OptionMatches, OptionValue, Program, ProgramOption, WordsError, read_words};
@@ -23,16 +24,18 @@ pub struct Options {
     pub units: u32,
     /// Where the regions stop, if they do.
     pub stop: Option<RegionStop>,
+    /// Which client dies, and where, if one does.
+    pub die: Option<Death>,
 }
 
 const RUN: Program = Program {
     name: "strata_run",
     about: "Clients make calls in threads of their own, beside workers and a migrator, and compare the answers with those of a plain tree",
-    usage: "strata_run --clients C --turns T --start N [--workers W] [--units U] [--stop K --fill HH]",
+    usage: "strata_run --clients C --turns T --start N [--workers W] [--units U] [--stop K --fill HH] [--die C:K]",
     after_help: None,
 };
 
-const OPTIONS: [ProgramOption; 7] = [
+const OPTIONS: [ProgramOption; 8] = [
     ProgramOption {
         name: "clients",
         value: OptionValue::Number32 { least: 1, most: 8 },
@@ -68,12 +71,13 @@ const OPTIONS: [ProgramOption; 7] = [
     },
     STOP,
     FILL,
+    DIE,
 ];
 
 /// Reads what the words ask for. The first word is the program's name.
 ///
 /// Refused where `clap` finds a fault in the words, or they ask for help, where `--clients`, `--turns` or `--start` is missing, where a
-/// number has too many bits, as `stop_in` is, and where memory is wanting.
+/// number has too many bits, as `stop_in` and `death_asked` are, and where memory is wanting.
 pub(crate) fn read_options<'a>(alloc: Global, words: &'a [&'a str]) -> Result<Options, WordsError>
     ensures { Asks run words.entry.now AreRunOptions HasBadRun result }
 {
@@ -99,5 +103,6 @@ fn options_in(matches: &OptionMatches<'_>) -> Result<Options, WordsError>
         workers: matches.number32_or("workers", 2)?,
         units: matches.number32_or("units", 1_024)?,
         stop: stop_in(matches)?,
+        die: death_asked(matches)?,
     })
 }

@@ -1,7 +1,8 @@
 //! A run of `strata_run`.
 use crate::client_run::{ClientRun, runs_of};
 use crate::client_tree::{ClientTree, new_trees};
-use crate::file_system::{fresh_set, recover_set};
+use crate::death::Death;
+use crate::file_system::{RunSet, fresh_run_set, recover_set};
 use crate::options::{Options, read_options};
 use crate::region_stops::{RegionStops, RunMedium};
 use crate::run_end::RunEnd;
@@ -13,7 +14,7 @@ use std::io::Write;
 use std::sync::Wait;
 use std::thread;
 use std::thread::Threads;
-use strata_threads::{OpenGate, SharedKernel, StopFlag, ThreadSet, Worker, run_migrator};
+use strata_threads::{OpenGate, SharedKernel, StopFlag, Worker, run_migrator};
 
 /// A difference, by its client and its turn.
 #[derive(Clone, Copy)]
@@ -86,7 +87,7 @@ fn report_replies<O: Write>(
 // The media are recovered, and each client's tree is compared.
 fn report_recovery<R: Wait + AllocGlobal, O: Write>(
     rt: &R,
-    set: ThreadSet<RunMedium>,
+    set: RunSet,
     trees: &mut [ClientTree],
     options: &Options,
     out: &mut O,
@@ -113,9 +114,9 @@ fn make_all_calls<R: Threads + Wait + AllocGlobal + Sync>(
     rt: &R,
     options: &Options,
     trees: &mut [ClientTree],
-) -> Result<ThreadSet<RunMedium>, RunError> {
+) -> Result<RunSet, RunError> {
     let mut stops = RegionStops::new(rt.alloc(), options.stop);
-    let mut set = fresh_set(
+    let mut set = fresh_run_set(
         rt.alloc(),
         options.units,
         options.workers as usize,
@@ -127,17 +128,30 @@ fn make_all_calls<R: Threads + Wait + AllocGlobal + Sync>(
 
 fn make_calls<R: Threads + Wait + AllocGlobal + Sync>(
     rt: &R,
-    set: &mut ThreadSet<RunMedium>,
+    set: &mut RunSet,
     stops: &RegionStops,
     trees: &mut [ClientTree],
     options: &Options,
 ) -> Result<(), RunError> {
-    let mut runs = runs_of(rt.alloc(), &mut set.clients, trees)?;
+    let mut runs = runs_of(rt.alloc(), &mut set.seats, trees)?;
     let clients = options.clients;
     open_tree(rt, &set.shared, stops, &mut runs, &mut set.workers, clients)?;
     stops.arm(options.stop);
+    arm_death(&mut runs, options.die);
     make_all_turns(rt, &set.shared, stops, &mut runs, &mut set.workers, options);
     Ok(())
+}
+
+// Has the client die that is to die, of those whose runs these are.
+fn arm_death(runs: &mut [ClientRun<'_>], die: Option<Death>) {
+    let Some(death) = die else {
+        return;
+    };
+    for run in runs {
+        if run.tree.number == death.client {
+            run.seat.arm(death.call);
+        }
+    }
 }
 
 /// Client 1 makes what the clients work in, has it digested, and gives its leases back.
@@ -183,7 +197,7 @@ fn ask_opening<R: Threads + Wait + Sync>(
     );
     match end {
         Ok(()) => Ok(()),
-        Err(RunEnd::Differs | RunEnd::Stopped) => Err(RunError::Damaged),
+        Err(RunEnd::Differs | RunEnd::Stopped | RunEnd::Died) => Err(RunError::Damaged),
         Err(RunEnd::Fault(fault)) => Err(fault),
     }
 }
@@ -257,7 +271,7 @@ fn first_difference(trees: &[ClientTree]) -> Result<Option<Difference>, RunError
                 }));
             }
             Some((_, RunEnd::Fault(fault))) => return Err(fault),
-            Some((_, RunEnd::Stopped)) | None => {}
+            Some((_, RunEnd::Stopped | RunEnd::Died)) | None => {}
         }
     }
     Ok(None)

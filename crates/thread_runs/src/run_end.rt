@@ -8,7 +8,9 @@ pub enum RunEnd {
     Differs,
     /// A region stopped: its own, or that of a client whose lease it waits for. Its last call is not answered.
     Stopped,
-    /// Memory, or a device.
+    /// Its client died. What became of its last call is judged once it is buried.
+    Died,
+    /// Memory, a device, or a log that can't be digested.
     Fault(RunError),
 }
 

@@ -4,7 +4,7 @@ use Rattle.std.specs.Prelude.{Bool, Option, if◌then◌else◌}
 use Rattle.tier_device.specs.declared.fill.Fill.{Fill}
 use Rattle.tier_device.specs.declared.fill.Fill.TheVariants.{New}
 use Rattle.tier_device.specs.declared.media.Media.{Ghosts}
-use Rattle.script.specs.SystemLines.{Asked, Books, Calls, Digests, Fails, Halts, Moves, Places, Recovers, Steps, Stops, Wipes}
+use Rattle.script.specs.SystemLines.{Asked, Books, Buries, Calls, Dies, Digests, Fails, Halts, Moves, Places, Recovers, Steps, Stops, Wipes}
 use Rattle.world_files.specs.area_recovery.FaultOrMemory.{IsFaultOrMemory}
 use Rattle.world_files.specs.area_recovery.Parts.{PartsView, part_medium}
 use Rattle.world_files.specs.area_recovery.declared.error.RecoveryError.{RecoveryError}
@@ -97,6 +97,8 @@ module _ {M : Type 0} where
     session_answered device holds old (Some (Steps client)) answer new asks is = is
     session_answered device holds old (Some (Digests client)) answer new asks is = is
     session_answered device holds old (Some (Wipes client)) answer new asks is = is
+    session_answered device holds old (Some (Dies client)) answer new asks is = is
+    session_answered device holds old (Some (Buries client)) answer new asks is = is
     session_answered device holds old (Some (Moves path first count to)) answer new asks is = is
     session_answered device holds old (Some (Places path block)) answer new asks is = is
     session_answered device holds old (Some Books) answer new asks is = is

@@ -12,6 +12,8 @@ use Rattle.call_driver.specs.event_steps.declared.outcome.Outcome.{Outcome}
 use Rattle.call_driver.specs.event_steps.declared.outcome.Outcome.TheVariants as outcomes
 use Rattle.call_driver.specs.event_steps.declared.outcome.Refusal.{Refusal}
 use Rattle.call_driver.specs.event_steps.declared.outcome.Refusal.TheVariants as refusals
+use Rattle.call_driver.specs.declared.burials.BuryResult.{BuryResult}
+use Rattle.call_driver.specs.declared.burials.BuryResult.TheVariants as burials
 use Rattle.call_driver.specs.declared.call_result.CallResult.{CallResult}
 use Rattle.call_driver.specs.declared.call_result.CallResult.TheVariants as served
 use Rattle.workload_cli.specs.declared.answer.Answer.{Answer}
@@ -54,7 +56,30 @@ move_answer count (outcomes.Refused why) = answers.Refused why
 move_answer count (outcomes.Reply reply) = answers.Idle
 move_answer count outcomes.Pending = answers.Idle
 move_answer count (outcomes.Need need) = answers.Idle
+move_answer count outcomes.Died = answers.Idle
+move_answer count (outcomes.Settled fate) = answers.Idle
+move_answer count outcomes.Buried = answers.Idle
+move_answer count outcomes.Joined = answers.Idle
 move_answer count outcomes.Idle = answers.Idle
+
+-- whether a client died
+abbrev pub die_answer : Outcome → Answer
+die_answer (outcomes.Reply reply) = answers.Idle
+die_answer outcomes.Pending = answers.Idle
+die_answer (outcomes.Need need) = answers.Idle
+die_answer outcomes.Stepped = answers.Idle
+die_answer (outcomes.Refused why) = answers.Idle
+die_answer outcomes.Died = answers.Died
+die_answer (outcomes.Settled fate) = answers.Idle
+die_answer outcomes.Buried = answers.Idle
+die_answer outcomes.Joined = answers.Idle
+die_answer outcomes.Idle = answers.Idle
+
+-- what became of a burial
+abbrev pub bury_answer : BuryResult → Answer
+bury_answer (burials.Buried found) = answers.Buried found
+bury_answer burials.Idle = answers.Idle
+bury_answer (burials.Refused why) = answers.Refused why
 
 -- how the units stand; none where a device of the shared area has failed
 abbrev pub book_answer : Option Figures → Answer

@@ -2,7 +2,7 @@
 use Rattle.std.specs.Prelude.{◌≡◌, ◌⊎◌, ℕ, Bool, true, false, Option, Some, None}
 use Rattle.tier_device.specs.declared.fill.Fill.{Fill}
 use Rattle.tier_device.specs.declared.media.Media.{Ghosts}
-use Rattle.script.specs.SystemLines.{Asked, Books, Calls, Digests, Fails, Halts, Moves, Places, Recovers, Steps, Stops, Wipes}
+use Rattle.script.specs.SystemLines.{Asked, Books, Buries, Calls, Dies, Digests, Fails, Halts, Moves, Places, Recovers, Steps, Stops, Wipes}
 use Rattle.call_driver.specs.declared.events.Events.{Ghosts as Played}
 use Rattle.call_driver.specs.system_laws.WorldView.{WorldView}
 use Rattle.workload_cli.specs.declared.answer.Answer.{Answer}
@@ -67,6 +67,8 @@ module _ {M : Type 0} where
     IsSessionAnswer device holds old (Some (Steps client)) answer new = IsRunningAnswered old (running_world old) (Some (Steps client)) answer new
     IsSessionAnswer device holds old (Some (Digests client)) answer new = IsRunningAnswered old (running_world old) (Some (Digests client)) answer new
     IsSessionAnswer device holds old (Some (Wipes client)) answer new = IsRunningAnswered old (running_world old) (Some (Wipes client)) answer new
+    IsSessionAnswer device holds old (Some (Dies client)) answer new = IsRunningAnswered old (running_world old) (Some (Dies client)) answer new
+    IsSessionAnswer device holds old (Some (Buries client)) answer new = IsRunningAnswered old (running_world old) (Some (Buries client)) answer new
     IsSessionAnswer device holds old (Some (Moves path first count to)) answer new = IsRunningAnswered old (running_world old) (Some (Moves path first count to)) answer new
     IsSessionAnswer device holds old (Some (Places path block)) answer new = IsRunningAnswered old (running_world old) (Some (Places path block)) answer new
     IsSessionAnswer device holds old (Some Books) answer new = IsRunningAnswered old (running_world old) (Some Books) answer new

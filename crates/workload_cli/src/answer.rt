@@ -5,6 +5,7 @@ ghost use Rattle.workload_cli.specs.AnswerText.{failure_answer};
 use crate::faults::recovery_fault;
 use call_driver::in_event_steps::Refusal;
 use call_driver::in_kernel_fs::Figures;
+use call_driver::in_libfs::Found;
 use posix_calls::{Errno, Reply};
 use script::write_reply;
 use std::io::{self, Write};
@@ -24,13 +25,17 @@ pub enum Answer {
     Blocked,
     /// One device call of a call that waits for its answer.
     Stepped,
-    /// No call waits for its answer.
+    /// No call waits for its answer, or the client is not to die or to be buried.
     Idle,
     /// How many records were digested.
     Digested(usize),
     Wiped,
     /// There was nothing to wipe.
     Clean,
+    /// The client is dead.
+    Died,
+    /// The client is buried, its begun call was found so, and a new one has its seat.
+    Buried(Found),
     /// How many blocks went down.
     Moved(u64),
     /// The tier of a block; none of a hole.
@@ -72,6 +77,10 @@ fn word_of(answer: &Answer) -> &'static str {
         Answer::Recovered => "recovered",
         Answer::Wiped => "wiped",
         Answer::Clean => "clean",
+        Answer::Died => "died",
+        Answer::Buried(Found::Whole) => "buried whole",
+        Answer::Buried(Found::Gone) => "buried gone",
+        Answer::Buried(Found::Nothing) => "buried",
         Answer::Lies(Some(Tier::Fast)) => "fast",
         Answer::Lies(Some(Tier::Block)) => "block",
         Answer::Lies(Some(Tier::Slow)) => "slow",

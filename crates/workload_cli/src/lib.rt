@@ -4,6 +4,7 @@
 mod answer;
 mod area_view;
 mod calls;
+mod deaths;
 mod faults;
 mod fences;
 mod fresh_parts;

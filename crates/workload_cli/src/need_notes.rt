@@ -3,6 +3,7 @@ use call_driver::Events;
 use call_driver::in_client_plan::{Mode, Need};
 use call_driver::in_event_steps::{Event, Outcome};
 use call_driver::in_lease_manager::LeaseMode;
+use call_driver::in_libfs::Life;
 use std::alloc::Global;
 use std::io::Write;
 
@@ -34,6 +35,8 @@ impl<S: Events> Events for Noting<S> {
 
     ghost undigested_count = { λ s c. S.undigested_count s.system c };
 
+    ghost lives = { λ s c. S.lives s.system c };
+
     fn play(&mut self, event: &Event) -> Outcome {
         let outcome = self.system.play(event);
         if let Outcome::Need { need } = &outcome {
@@ -56,6 +59,10 @@ impl<S: Events> Events for Noting<S> {
 
     fn undigested(&self, client: u32) -> usize {
         self.system.undigested(client)
+    }
+
+    fn life(&self, client: u32) -> Life {
+        self.system.life(client)
     }
 }
 

@@ -19,13 +19,18 @@ These print ok:
   close FD       truncate PATH LENGTH    mkdir PATH      rmdir PATH
   unlink PATH    link OLD NEW            rename OLD NEW  exchange PATH PATH
 What a call needs is served, and others hand over what they hold. Behind try
-they do not: then, or where one is in the midst of a call, it prints blocked.
-Behind begin a call that writes is begun alone, and prints pending.
+they do not: then, or where one is dead or in the midst of a call, it prints
+blocked. Behind begin a call that writes is begun alone, and prints pending.
 
 Other lines, where C is a client:
   step C                              step, the call's answer, or idle
   digest C                            digested N: the records of its log
   wipe C                              wiped, or clean
+  die C                               died, or idle: C keeps what it has; its
+                                      calls, step, digest, wipe print blocked
+  bury C                              buried whole or buried gone, as its begun
+                                      call was; with none buried: a new C is
+                                      there. Or idle; or refused N: ask again
   migrate PATH FIRST COUNT block      moved COUNT: or slow, for block
   where PATH BLOCK                    fast, block, slow or hole
   book                                charge X out Y of Z: in units

@@ -260,6 +260,8 @@ impl<M: Resting + Drop> Session for ScriptWorld<M> {
             SystemLine::Step { .. } => self.answer_running(alloc, line),
             SystemLine::Digest { .. } => self.answer_running(alloc, line),
             SystemLine::Wipe { .. } => self.answer_running(alloc, line),
+            SystemLine::Die { .. } => self.answer_running(alloc, line),
+            SystemLine::Bury { .. } => self.answer_running(alloc, line),
             SystemLine::Migrate { .. } => self.answer_running(alloc, line),
             SystemLine::Where { .. } => self.answer_running(alloc, line),
             SystemLine::Book => self.answer_running(alloc, line),

@@ -18,9 +18,9 @@ pub returns-in-Err-clause-begun : goal.returns-in-Err-clause-begun
 returns-in-Err-clause-begun g c =
     let no : g.E.Events.pending c.args.events.now c.args.client ≡ false = cc in
     let denied = c.deny.ensures.exact c.args.client c.args.call refl in
-    inr (no, inr (record { why = c.in-Err.why; last = c.start_until_ready.new.events; refused = c.in-Err.ensures.answer c.args.call refl; came = denied.0; denied = denied.1; told = denied.2 }))
+    inr (c.is_dead.ensures.alive c.if-is_dead.false, no, inr (record { why = c.in-Err.why; last = c.start_until_ready.new.events; refused = c.in-Err.ensures.answer c.args.call refl; came = denied.0; denied = denied.1; told = denied.2 }))
 
 pub returns-in-Ok-clause-begun : goal.returns-in-Ok-clause-begun
 returns-in-Ok-clause-begun g c =
     let no : g.E.Events.pending c.args.events.now c.args.client ≡ false = cc in
-    inr (no, inl (c.in-Ok.ensures.answer c.args.call refl))
+    inr (c.is_dead.ensures.alive c.if-is_dead.false, no, inl (c.in-Ok.ensures.answer c.args.call refl))

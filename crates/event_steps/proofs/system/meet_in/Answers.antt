@@ -25,8 +25,8 @@ returns-clause-same g c =
     let one = c.one.inside in
     let other = c.other.inside in
     put_back bs fs c.args.seats.now c.args.low c.index-before-low.result c.in-Some.other.now _ _ c.split_at_mut-before.ensures.value c.index-before-low.is c.in-Some.ensures.item.1
-    (ap (λ k. record { client = k; away = one.away; refused = one.refused }) c.meet.ensures.same.0 ∙ c.one.view_is ∙ sym c.index-before-low.is)
-    (ap (λ k. record { client = k; away = other.away; refused = other.refused }) c.meet.ensures.same.1 ∙ c.other.view_is)
+    (ap (λ k. record { client = k; away = one.away; refused = one.refused; life = one.life }) c.meet.ensures.same.0 ∙ c.one.view_is ∙ sym c.index-before-low.is)
+    (ap (λ k. record { client = k; away = other.away; refused = other.refused; life = other.life }) c.meet.ensures.same.1 ∙ c.other.view_is)
 
 pub returns-clause-leases : goal.returns-clause-leases
 returns-clause-leases g c = λ s t at_low at_high.

@@ -5,7 +5,7 @@ use Rattle.recovery.proofs.OpenedLogs.{even_back, odd_back, odd_there, opened_se
 use Rattle.recovery.proofs.assembly.open_seat.Goals as goal
 
 pub returns-in-Ok-open_client-clause-opened : goal.returns-in-Ok-open_client-clause-opened
-returns-in-Ok-open_client-clause-opened g c = let o = c.in-Ok.ensures in opened_seat g.M.Media c.args.pass c.args.generation c.args.regions c.in-Ok.log c.in-Ok-open_client.seat o.opened o.blank c.in-Ok-open_client.ensures.new c.in-Ok-open_client.ensures.home c.in-Ok-open_client.ensures.unrefused
+returns-in-Ok-open_client-clause-opened g c = let o = c.in-Ok.ensures in opened_seat g.M.Media c.args.pass c.args.generation c.args.regions c.in-Ok.log c.in-Ok-open_client.seat o.opened o.blank c.in-Ok-open_client.ensures.new c.in-Ok-open_client.ensures.home c.in-Ok-open_client.ensures.alive c.in-Ok-open_client.ensures.unrefused
 
 pub present-requires-in-Err-open_client : goal.present-requires-in-Err-open_client
 present-requires-in-Err-open_client g c =

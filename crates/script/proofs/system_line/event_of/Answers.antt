@@ -10,6 +10,8 @@ returns-in_default c =
       no_name w (codes "step") refl none,
       no_name w (codes "digest") refl none,
       no_name w (codes "wipe") refl none,
+      no_name w (codes "die") refl none,
+      no_name w (codes "bury") refl none,
       no_name w (codes "migrate") refl none,
       no_name w (codes "where") refl none,
       no_name w (codes "stop") refl none,

@@ -1,5 +1,5 @@
 use Rattle.std.proofs.Common.{◌∙◌}
-use Rattle.strata_threads.proofs.Started.{is_started, leases_stay, needs_first, owner_stays, started_keeps}
+use Rattle.strata_threads.proofs.Started.{begun_stage, is_started, leases_stay, needs_first, owner_stays, started_keeps}
 use Rattle.strata_threads.proofs.call_turns.begin_call.Goals as goal
 
 pub returns-clause-owner : goal.returns-clause-owner
@@ -19,3 +19,6 @@ returns-clause-started g c = is_started g.M.Media c.args.client.now c.start.new.
 
 pub returns-clause-needed : goal.returns-clause-needed
 returns-clause-needed g c = needs_first g.M.Media c.args.client.now c.start.new.self c.args.call.now c.start.result c.start.ensures.failed c.start.ensures.started
+
+pub returns-clause-stage : goal.returns-clause-stage
+returns-clause-stage g c = begun_stage g.M.Media c.args.client.now c.start.new.self c.args.call.now c.start.result c.start.ensures.failed c.start.ensures.started

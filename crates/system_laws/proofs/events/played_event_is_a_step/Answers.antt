@@ -33,6 +33,10 @@ returns-clause-step g c = λ v e o new begun carries met settled. elim (idle_or_
     each (event.Reclaim i) = λ v o new begun turn makes met settled. c.reclaimed_file_is_a_step.ensures v i o new begun turn makes
     each (event.Migrate i first count to) = λ v o new begun turn makes met settled. c.migrated_run_is_a_step.ensures v i first count to o new begun turn makes
     each (event.Deny client call why) = λ v o new begun turn makes met settled. c.denied_call_is_a_step.ensures v client call why o new begun turn makes
+    each (event.Die client) = λ v o new begun turn makes met settled. c.dead_client_is_a_step.ensures v client o new begun turn makes
+    each (event.Settle client) = λ v o new begun turn makes met settled. c.settled_client_is_a_step.ensures v client o new begun turn makes
+    each (event.Bury client) = λ v o new begun turn makes met settled. c.buried_client_is_a_step.ensures v client o new begun turn makes
+    each (event.Join client) = λ v o new begun turn makes met settled. c.joined_client_is_a_step.ensures v client o new begun turn makes
 
 pub returns-clause-never_bad : goal.returns-clause-never_bad
 returns-clause-never_bad g c = λ v e o new begun carries. elim (idle_or_done o carries) [

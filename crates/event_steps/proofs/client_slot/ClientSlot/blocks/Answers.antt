@@ -13,11 +13,11 @@ returns-clause-carries g c =
     let k = c.args.kernel.now in
     let a = c.fetch_blocks-answer in
     let held : IsHeld s.client c.args.inode = grind arith in
-    let new : SeatView _ = record { client = a.new.self; away = s.away; refused = c.note_answer.new.refused } in
+    let new : SeatView _ = record { client = a.new.self; away = s.away; refused = c.note_answer.new.refused; life = s.life } in
     subst (λ (v : SeatView _). Carries (IsHeld v.client c.args.inode) (AreFetched device k v c.args.inode c.args.first c.args.count c.note_answer.result new a.new.kernel) ((new ≡ v) × (a.new.kernel ≡ k)) c.note_answer.result) c.self.view_is
     (carried a.result c.note_answer.result c.note_answer.ensures.outcome held (inr (record {
       answer = a.result;
-      asks = asks device k a.new.kernel s.client a.new.self s.away s.refused c.note_answer.new.refused a.result c.note_answer.result c.note_answer.ensures.outcome c.note_answer.ensures.noted;
+      asks = asks device k a.new.kernel s.client a.new.self s.away s.life s.refused c.note_answer.new.refused a.result c.note_answer.result c.note_answer.ensures.outcome c.note_answer.ensures.noted;
       fetched = a.ensures.fetched;
       there = a.ensures.there;
       failed = a.ensures.failed;

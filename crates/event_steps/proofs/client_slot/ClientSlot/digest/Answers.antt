@@ -19,9 +19,9 @@ returns-in-Err-clause-carries g c =
     let why = c.in-Err.refusal in
     let e = c.in-Err.ensures in
     let was : s.away ≡ Some c.in-Some.away = grind arith in
-    let is = subst (λ (o : Option (SealedRegionView _)). record { client = s.client; away = o; refused = s.refused } ≡ c.args.self.now) was c.self.view_is in
+    let is = subst (λ (o : Option (SealedRegionView _)). record { client = s.client; away = o; refused = s.refused; life = s.life } ≡ c.args.self.now) was c.self.view_is in
     let unfailed : s.client.log.failed ≡ false = grind arith in
-    let of : Option (SealedRegionView _) → SeatView _ = λ o. record { client = s.client; away = o; refused = s.refused } in
+    let of : Option (SealedRegionView _) → SeatView _ = λ o. record { client = s.client; away = o; refused = s.refused; life = s.life } in
     subst (λ (o : Option (SealedRegionView _)). Carries ((c.args.self.now.client.log.failed ≡ false) × (is_some c.args.self.now.away ≡ true)) (IsDigestedOn device k c.args.self.now (outcomes.Refused why) (of o) c.accept_region.new.kernel) ((of o ≡ c.args.self.now) × (c.accept_region.new.kernel ≡ k)) (outcomes.Refused why)) (sym c.put.ensures)
     (subst (λ (v : SeatView _). Carries ((v.client.log.failed ≡ false) × (is_some v.away ≡ true)) (IsDigestedOn device k v (outcomes.Refused why) (of (Some c.accept_region.new.region)) c.accept_region.new.kernel) ((of (Some c.accept_region.new.region) ≡ v) × (c.accept_region.new.kernel ≡ k)) (outcomes.Refused why)) is
     (done (outcomes.Refused why) (refused_is_done why) (unfailed, refl) (record {
@@ -49,7 +49,7 @@ invariant_of-self-else-is_digested g c =
     let from : IsAwayFrom device s.client a = subst (λ (o : Option (SealedRegionView _)). IsSeated device s.client o) was c.self.invariant in
     let no : c.is_digested.result ≡ false = cc in
     subst (λ (o : Option (SealedRegionView _)). IsSeated device s.client o) (sym c.put-else-is_digested.ensures)
-    (next_from device c.args.kernel.now c.accept_region.new.kernel c.digest_next-outcome.new.kernel s.client s.refused a c.accept_region.new.region c.digest_next-outcome.new.region c.digest_next-outcome.result c.is_digested.result from c.in-Ok.ensures.accepted c.digest_next-outcome.ensures.rest c.digest_next-outcome.ensures.came c.is_digested.ensures.exact no)
+    (next_from device c.args.kernel.now c.accept_region.new.kernel c.digest_next-outcome.new.kernel s.client s.life s.refused a c.accept_region.new.region c.digest_next-outcome.new.region c.digest_next-outcome.result c.is_digested.result from c.in-Ok.ensures.accepted c.digest_next-outcome.ensures.rest c.digest_next-outcome.ensures.came c.is_digested.ensures.exact no)
 
 pub returns-then-is_digested-clause-carries : goal.returns-then-is_digested-clause-carries
 returns-then-is_digested-clause-carries g c =
@@ -59,17 +59,17 @@ returns-then-is_digested-clause-carries g c =
     let a = c.in-Some.away in
     let was : s.away ≡ Some a = grind arith in
     let from : IsAwayFrom device s.client a = subst (λ (o : Option (SealedRegionView _)). IsSeated device s.client o) was c.self.invariant in
-    let is = subst (λ (o : Option (SealedRegionView _)). record { client = s.client; away = o; refused = s.refused } ≡ c.args.self.now) was c.self.view_is in
+    let is = subst (λ (o : Option (SealedRegionView _)). record { client = s.client; away = o; refused = s.refused; life = s.life } ≡ c.args.self.now) was c.self.view_is in
     let unfailed : s.client.log.failed ≡ false = grind arith in
     let yes : c.is_digested.result ≡ true = cc in
     let gone : c.take.new.self ≡ None = grind arith in
-    let of : Option (SealedRegionView _) → SeatView _ = λ o. record { client = c.take_back.new.client; away = o; refused = s.refused } in
+    let of : Option (SealedRegionView _) → SeatView _ = λ o. record { client = c.take_back.new.client; away = o; refused = s.refused; life = s.life } in
     let o = c.digest_next-outcome.result in
     let after = c.digest_next-outcome.new.kernel in
     subst (λ (z : Option (SealedRegionView _)). Carries ((c.args.self.now.client.log.failed ≡ false) × (is_some c.args.self.now.away ≡ true)) (IsDigestedOn device k c.args.self.now o (of z) after) ((of z ≡ c.args.self.now) × (after ≡ k)) o) (sym gone)
     (subst (λ (v : SeatView _). Carries ((v.client.log.failed ≡ false) × (is_some v.away ≡ true)) (IsDigestedOn device k v o (of None) after) ((of None ≡ v) × (after ≡ k)) o) is
-    (done o (chunk_done device k c.accept_region.new.kernel after s.client s.refused a c.accept_region.new.region c.digest_next-outcome.new.region o c.is_digested.result from c.in-Ok.ensures.accepted c.digest_next-outcome.ensures.rest c.digest_next-outcome.ensures.came c.is_digested.ensures.exact) (unfailed, refl)
-    (chunk_goes device k c.accept_region.new.kernel after s.client s.refused a c.accept_region.new.region c.digest_next-outcome.new.region o c.is_digested.result from c.in-Ok.ensures.accepted c.digest_next-outcome.ensures.rest c.digest_next-outcome.ensures.came c.is_digested.ensures.exact yes c.take_back.new.client c.take_back.ensures)))
+    (done o (chunk_done device k c.accept_region.new.kernel after s.client s.life s.refused a c.accept_region.new.region c.digest_next-outcome.new.region o c.is_digested.result from c.in-Ok.ensures.accepted c.digest_next-outcome.ensures.rest c.digest_next-outcome.ensures.came c.is_digested.ensures.exact) (unfailed, refl)
+    (chunk_goes device k c.accept_region.new.kernel after s.client s.life s.refused a c.accept_region.new.region c.digest_next-outcome.new.region o c.is_digested.result from c.in-Ok.ensures.accepted c.digest_next-outcome.ensures.rest c.digest_next-outcome.ensures.came c.is_digested.ensures.exact yes c.take_back.new.client c.take_back.ensures)))
 
 pub returns-else-is_digested-clause-carries : goal.returns-else-is_digested-clause-carries
 returns-else-is_digested-clause-carries g c =
@@ -79,16 +79,16 @@ returns-else-is_digested-clause-carries g c =
     let a = c.in-Some.away in
     let was : s.away ≡ Some a = grind arith in
     let from : IsAwayFrom device s.client a = subst (λ (o : Option (SealedRegionView _)). IsSeated device s.client o) was c.self.invariant in
-    let is = subst (λ (o : Option (SealedRegionView _)). record { client = s.client; away = o; refused = s.refused } ≡ c.args.self.now) was c.self.view_is in
+    let is = subst (λ (o : Option (SealedRegionView _)). record { client = s.client; away = o; refused = s.refused; life = s.life } ≡ c.args.self.now) was c.self.view_is in
     let unfailed : s.client.log.failed ≡ false = grind arith in
     let no : c.is_digested.result ≡ false = cc in
-    let of : Option (SealedRegionView _) → SeatView _ = λ o. record { client = s.client; away = o; refused = s.refused } in
+    let of : Option (SealedRegionView _) → SeatView _ = λ o. record { client = s.client; away = o; refused = s.refused; life = s.life } in
     let o = c.digest_next-outcome.result in
     let after = c.digest_next-outcome.new.kernel in
     subst (λ (z : Option (SealedRegionView _)). Carries ((c.args.self.now.client.log.failed ≡ false) × (is_some c.args.self.now.away ≡ true)) (IsDigestedOn device k c.args.self.now o (of z) after) ((of z ≡ c.args.self.now) × (after ≡ k)) o) (sym c.put-else-is_digested.ensures)
     (subst (λ (v : SeatView _). Carries ((v.client.log.failed ≡ false) × (is_some v.away ≡ true)) (IsDigestedOn device k v o (of (Some c.digest_next-outcome.new.region)) after) ((of (Some c.digest_next-outcome.new.region) ≡ v) × (after ≡ k)) o) is
-    (done o (chunk_done device k c.accept_region.new.kernel after s.client s.refused a c.accept_region.new.region c.digest_next-outcome.new.region o c.is_digested.result from c.in-Ok.ensures.accepted c.digest_next-outcome.ensures.rest c.digest_next-outcome.ensures.came c.is_digested.ensures.exact) (unfailed, refl)
-    (chunk_stays device k c.accept_region.new.kernel after s.client s.refused a c.accept_region.new.region c.digest_next-outcome.new.region o c.is_digested.result from c.in-Ok.ensures.accepted c.digest_next-outcome.ensures.rest c.digest_next-outcome.ensures.came c.is_digested.ensures.exact no)))
+    (done o (chunk_done device k c.accept_region.new.kernel after s.client s.life s.refused a c.accept_region.new.region c.digest_next-outcome.new.region o c.is_digested.result from c.in-Ok.ensures.accepted c.digest_next-outcome.ensures.rest c.digest_next-outcome.ensures.came c.is_digested.ensures.exact) (unfailed, refl)
+    (chunk_stays device k c.accept_region.new.kernel after s.client s.life s.refused a c.accept_region.new.region c.digest_next-outcome.new.region o c.is_digested.result from c.in-Ok.ensures.accepted c.digest_next-outcome.ensures.rest c.digest_next-outcome.ensures.came c.is_digested.ensures.exact no)))
 
 pub accept_region-requires-clause-some : goal.accept_region-requires-clause-some
 accept_region-requires-clause-some g c =
@@ -122,4 +122,4 @@ take_back-requires g c =
     let was : s.away ≡ Some a = grind arith in
     let from : IsAwayFrom device s.client a = subst (λ (o : Option (SealedRegionView _)). IsSeated device s.client o) was c.self.invariant in
     let yes : c.is_digested.result ≡ true = cc in
-    record { may = may_take_back device c.args.kernel.now c.accept_region.new.kernel c.digest_next-outcome.new.kernel s.client s.refused a c.accept_region.new.region c.digest_next-outcome.new.region c.digest_next-outcome.result c.is_digested.result from c.in-Ok.ensures.accepted c.digest_next-outcome.ensures.rest c.digest_next-outcome.ensures.came c.is_digested.ensures.exact yes }
+    record { may = may_take_back device c.args.kernel.now c.accept_region.new.kernel c.digest_next-outcome.new.kernel s.client s.life s.refused a c.accept_region.new.region c.digest_next-outcome.new.region c.digest_next-outcome.result c.is_digested.result from c.in-Ok.ensures.accepted c.digest_next-outcome.ensures.rest c.digest_next-outcome.ensures.came c.is_digested.ensures.exact yes }

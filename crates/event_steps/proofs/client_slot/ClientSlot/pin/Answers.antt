@@ -12,11 +12,11 @@ returns-clause-carries g c =
     let s = c.self.inside in
     let k = c.args.kernel.now in
     let word : HasWord c.args.inode = grind arith in
-    let new : SeatView _ = record { client = c.pin-answer.new.self; away = s.away; refused = c.note_answer.new.refused } in
+    let new : SeatView _ = record { client = c.pin-answer.new.self; away = s.away; refused = c.note_answer.new.refused; life = s.life } in
     subst (λ (v : SeatView _). Carries (HasWord c.args.inode) (IsPinned device k v c.args.inode c.note_answer.result new c.pin-answer.new.kernel) ((new ≡ v) × (c.pin-answer.new.kernel ≡ k)) c.note_answer.result) c.self.view_is
     (carried c.pin-answer.result c.note_answer.result c.note_answer.ensures.outcome word (record {
       answer = c.pin-answer.result;
-      booked = booked device k c.pin-answer.new.kernel s.client c.pin-answer.new.self s.away s.refused c.note_answer.new.refused c.pin-answer.result c.note_answer.result c.note_answer.ensures.outcome c.note_answer.ensures.noted c.pin-answer.ensures.going c.pin-answer.ensures.failed (λ _. c.pin-answer.ensures.only) c.pin-answer.ensures.refused c.pin-answer.ensures.area c.pin-answer.ensures.opening;
+      booked = booked device k c.pin-answer.new.kernel s.client c.pin-answer.new.self s.away s.life s.refused c.note_answer.new.refused c.pin-answer.result c.note_answer.result c.note_answer.ensures.outcome c.note_answer.ensures.noted c.pin-answer.ensures.going c.pin-answer.ensures.failed (λ _. c.pin-answer.ensures.only) c.pin-answer.ensures.refused c.pin-answer.ensures.area c.pin-answer.ensures.opening;
       pins = c.pin-answer.ensures.pinned;
       step = c.pin-answer.ensures.step;
       out = c.pin-answer.ensures.out;

@@ -13,11 +13,11 @@ returns-then-not-fits-clause-carries g c =
     let k = c.args.kernel.now in
     let why = c.none_so_many.result in
     let past : 2 ^ 32 ≤ s.client.spare + c.args.units = grind arith in
-    let new : SeatView _ = record { client = s.client; away = s.away; refused = c.note_answer.new.refused } in
+    let new : SeatView _ = record { client = s.client; away = s.away; refused = c.note_answer.new.refused; life = s.life } in
     subst (λ (v : SeatView _). Carries ⊤ (IsRefilled device k v c.args.units c.args.inodes c.note_answer.result new k) ((new ≡ v) × (k ≡ k)) c.note_answer.result) c.self.view_is
     (carried (Err why) c.note_answer.result c.note_answer.ensures.outcome tt (record {
       answer = Err why;
-      booked = booked device k k s.client s.client s.away s.refused c.note_answer.new.refused (Err why) c.note_answer.result c.note_answer.ensures.outcome c.note_answer.ensures.noted tt (none_by k.area.failed why c.none_so_many.ensures.going) (λ is. inl (c.none_so_many.ensures.failed is)) (refl, refl) refl refl;
+      booked = booked device k k s.client s.client s.away s.life s.refused c.note_answer.new.refused (Err why) c.note_answer.result c.note_answer.ensures.outcome c.note_answer.ensures.noted tt (none_by k.area.failed why c.none_so_many.ensures.going) (λ is. inl (c.none_so_many.ensures.failed is)) (refl, refl) refl refl;
       granted = tt;
       law = tt;
       no_units = λ _. inr past;

@@ -24,7 +24,7 @@ returns-in-Ok-Some-clause-carries g c =
     let held : AreWritten s.client.pass a.held = subst (λ o. IfSome o (λ x. AreWritten s.client.pass x.held)) is c.in-Ok-Some.ensures.held in
     let untouched : IsUntouched a = subst (λ o. IfSome o IsUntouched) is c.in-Ok-Some.ensures.untouched in
     let sealed : HasSealed device s.client a c.seal.new.self = subst (λ o. IfSome o (λ x. HasSealed device s.client x c.seal.new.self)) is c.in-Ok-Some.ensures.sealed in
-    let new : SeatView _ = record { client = c.seal.new.self; away = Some a; refused = s.refused } in
+    let new : SeatView _ = record { client = c.seal.new.self; away = Some a; refused = s.refused; life = s.life } in
     subst (λ (v : SeatView _). Carries (CanBeSealed device v.client.log) (IsHandedOver device v outcomes.Stepped new) (new ≡ v) outcomes.Stepped) c.self.view_is
     (done outcomes.Stepped stepped_is_done can (inl (
       refl,

@@ -12,8 +12,8 @@ returns-clause-carries g c =
     let device = g.M.Media in
     let s = c.self.inside in
     let going : s.client.log.failed ≡ false = grind arith in
-    let new : SeatView _ = record { client = c.wipe_step.new.self; away = s.away; refused = s.refused } in
-    let of : ClientView _ → SeatView _ = λ w. record { client = w; away = s.away; refused = s.refused } in
+    let new : SeatView _ = record { client = c.wipe_step.new.self; away = s.away; refused = s.refused; life = s.life } in
+    let of : ClientView _ → SeatView _ = λ w. record { client = w; away = s.away; refused = s.refused; life = s.life } in
     subst (λ (v : SeatView _). Carries ((v.client.log.failed ≡ false) × IsToBeWiped v.client) (IsWipedOn device v c.wipe_outcome.result new) (new ≡ v) c.wipe_outcome.result) c.self.view_is
     (wiped c.wipe_step.result c.wipe_outcome.result c.wipe_outcome.ensures
     (λ is. let idle = c.wipe_step.ensures.idle.0 is in (λ turn. not_to_be_wiped s.client idle.1 idle.2 turn.1, ap of (c.wipe_step.ensures.nothing idle.0 idle.1 idle.2).1))

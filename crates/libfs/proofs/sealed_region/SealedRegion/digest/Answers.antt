@@ -1,4 +1,4 @@
-use Rattle.std.proofs.Common.{◌≡◌, Option, Some, refl, ◌∙◌, ap, subst}
+use Rattle.std.proofs.Common.{◌≡◌, Option, refl, ◌∙◌, ap, subst}
 use Rattle.kernel_fs.specs.digester.SealedLog.{SealedView}
 use Rattle.libfs.specs.SealedRegion.{DigestsChunk, IsKept, SealedRegionView, log_of}
 use Rattle.libfs.proofs.SealedRegions.{kept_on, log_is, log_there, only_done}

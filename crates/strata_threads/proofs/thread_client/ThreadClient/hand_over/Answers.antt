@@ -1,19 +1,18 @@
-use Rattle.std.proofs.Common.{Option, subst, sym, inl, inr}
+use Rattle.std.proofs.Common.{Option, subst, inl, inr}
 use Rattle.std.specs.Prelude.{IfSome}
 use Rattle.libfs.specs.RegionSeal.{HasSealed}
 use Rattle.libfs.specs.SealedRegion.{SealedRegionView}
-use Rattle.libfs.specs.View.{ClientView}
 use Rattle.strata_threads.proofs.thread_client.ThreadClient.hand_over.Goals as goal
 
 pub returns-in-Some-clause-handed : goal.returns-in-Some-clause-handed
 returns-in-Some-clause-handed g c = inl (
   c.in-Some.region,
-  subst (λ (v : ClientView g.row.M.Denot). HasSealed g.M.Media c.args.self.now.client c.in-Some.region v) (sym c.send.ensures.kept) (subst (λ (o : Option (SealedRegionView g.row.M.Denot)). IfSome o (λ x. HasSealed g.M.Media c.args.self.now.client x c.seal.new.self)) c.in-Some.is c.in_ok-region.ensures.sealed),
+  subst (λ (o : Option (SealedRegionView g.row.M.Denot)). IfSome o (λ x. HasSealed g.M.Media c.args.self.now.client x c.seal.new.self)) c.in-Some.is c.in_ok-region.ensures.sealed,
   c.send.ensures.sent,
 )
 
 pub returns-in-Some-clause-sealed : goal.returns-in-Some-clause-sealed
 returns-in-Some-clause-sealed g c = inr (
   c.in-Some.region,
-  subst (λ (v : ClientView g.row.M.Denot). HasSealed g.M.Media c.args.self.now.client c.in-Some.region v) (sym c.send.ensures.kept) (subst (λ (o : Option (SealedRegionView g.row.M.Denot)). IfSome o (λ x. HasSealed g.M.Media c.args.self.now.client x c.seal.new.self)) c.in-Some.is c.in_ok-region.ensures.sealed),
+  subst (λ (o : Option (SealedRegionView g.row.M.Denot)). IfSome o (λ x. HasSealed g.M.Media c.args.self.now.client x c.seal.new.self)) c.in-Some.is c.in_ok-region.ensures.sealed,
 )

@@ -16,6 +16,12 @@ returns-in-Digest g c = session_answered _ _ g.M.Media g.M.Resting.holds c.args.
 pub returns-in-Wipe : goal.returns-in-Wipe
 returns-in-Wipe g c = session_answered _ _ g.M.Media g.M.Resting.holds c.args.self.now (system_line_seen c.args.line) c.answer_running-in-Wipe.result c.answer_running-in-Wipe.new.self (ap (λ (l : SystemLine). asks_running (system_line_seen l)) c.in-Wipe.is) c.answer_running-in-Wipe.ensures
 
+pub returns-in-Die : goal.returns-in-Die
+returns-in-Die g c = session_answered _ _ g.M.Media g.M.Resting.holds c.args.self.now (system_line_seen c.args.line) c.answer_running-in-Die.result c.answer_running-in-Die.new.self (ap (λ (l : SystemLine). asks_running (system_line_seen l)) c.in-Die.is) c.answer_running-in-Die.ensures
+
+pub returns-in-Bury : goal.returns-in-Bury
+returns-in-Bury g c = session_answered _ _ g.M.Media g.M.Resting.holds c.args.self.now (system_line_seen c.args.line) c.answer_running-in-Bury.result c.answer_running-in-Bury.new.self (ap (λ (l : SystemLine). asks_running (system_line_seen l)) c.in-Bury.is) c.answer_running-in-Bury.ensures
+
 pub returns-in-Migrate : goal.returns-in-Migrate
 returns-in-Migrate g c = session_answered _ _ g.M.Media g.M.Resting.holds c.args.self.now (system_line_seen c.args.line) c.answer_running-in-Migrate.result c.answer_running-in-Migrate.new.self (ap (λ (l : SystemLine). asks_running (system_line_seen l)) c.in-Migrate.is) c.answer_running-in-Migrate.ensures
 
