@@ -72,8 +72,9 @@ def try_rsync(folder, disk):
         copy()
 
     def later():
-        copy()
+        copied = copy()
         check(text_of(f"{backup}/book") == "balance 999", "a backup keeps old bytes")
+        check("other" not in copied, "a backup copies what has not changed")
 
     is_told_apart(folder, disk, first, lambda: put(f"{folder}/book", "balance 999"), later)
     with Mount(folder, disk):
