@@ -1,2 +1,3 @@
+pub mod TimeLemmas
 pub mod ServedLemmas
 pub mod ListingLemmas

@@ -29,6 +29,7 @@ use Rattle.mount_nodes.specs.Reads.{Reads}
 use Rattle.mount_nodes.specs.Renames.{Renames}
 use Rattle.fuse_server.specs.Replies.{IsReplyFor}
 use Rattle.mount_nodes.specs.Sizes.{SetsAttributes}
+use Rattle.fuse_server.specs.TimeChanges.{ServesTimes}
 
 -- what came of a request is its answer, or why it is refused
 abbrev pub answer_of : {A : Type 0} → (A → Answer) → Result A Refusal → Answer
@@ -106,13 +107,13 @@ module _ {S : Type 0} (tree : Ghosts S) where
   Serves old new node (request.Write handle at flags bytes) a s t = AnswersResult (answer_of answer.Count) (Writes tree old.nodes node at bytes.now) a s t
   Serves old new node r a s t = ServesFile old new node r a s t
 
-  -- What any request asks, its answer, and which directories are open behind it: OPENDIR opens one, READDIR lists one and changes
-  -- nothing, RELEASEDIR closes one, and all others leave each as it is.
+  -- What any request asks, its answer, what becomes of times, and which directories are open behind it: OPENDIR opens one, READDIR lists one and
+  -- changes nothing, RELEASEDIR closes one, and all others leave each as it is.
   abbrev pub ServesRequest : Server → Server → ℕ → Request → Answer → S → S → Type 0
   ServesRequest old new node (request.OpenDir flags) a s t = (new.tables ≡ old.tables) × AnswersResult (answer_of answer.Opened) (OpensDir tree old.tables.nodes node old.listings.items new.listings.items) a s t
   ServesRequest old new node (request.ReadDir handle at size) a s t = (new ≡ old) × (a ≡ answer.Entries handle at size) × (t ≡ s)
   ServesRequest old new node (request.ReleaseDir handle) a s t = (new.tables ≡ old.tables) × ClosesListing old.listings.items new.listings.items handle × (a ≡ answer.Done) × (t ≡ s)
-  ServesRequest old new node r a s t = (new.listings ≡ old.listings) × Serves old.tables new.tables node r a s t
+  ServesRequest old new node r a s t = (new.listings ≡ old.listings) × Serves old.tables new.tables node r a s t × ServesTimes old.tables.times new.tables.times node r a
 
   -- A message that spells a request is answered so; any other is refused as invalid, and asks and changes nothing.
   unfoldable pub IsAnswerTo : Server → Server → List ℕ → Answer → S → S → Type 0

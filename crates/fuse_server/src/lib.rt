@@ -7,11 +7,13 @@
 
 mod answer;
 mod listings;
+mod owner;
 mod replies;
 mod requests;
 mod server;
 mod stream;
 
+pub use owner::Owner;
 pub use server::{ServeError, Server};
 pub use stream::{StreamError, serve_stream};
 

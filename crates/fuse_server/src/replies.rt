@@ -7,7 +7,7 @@ ghost use Rattle.fuse_wire.specs.Errno.{refusal_number};
 ghost use Rattle.fuse_wire.specs.Replies.{error_bytes, reply_bytes};
 ghost use Rattle.fuse_server.specs.Answers.{IsReply};
 ghost use Rattle.fuse_server.specs.Listings.{CarriesEntries, CarriesListing, entries_from, listing_at};
-ghost use Rattle.fuse_server.specs.Replies.{Carries, HasRoom, attr_of, entry_of, stat_fs_of};
+ghost use Rattle.fuse_server.specs.Replies.{Carries, HasRoom, attr_of, entry_of, mode_of, stat_fs_of};
 
 use crate::answer::Answer;
 use crate::listings::Listing;
@@ -30,16 +30,19 @@ const FOR_EVER: Time = Time {
 /// The flag of an opened file by which the kernel keeps what it has of it (`FOPEN_KEEP_CACHE`).
 const KEEP_CACHE: u32 = 2;
 
-/// The modes of directories and of files: who mounts may do all, others may read, and a file may be run.
-const DIR_MODE: u32 = 0o40755;
+/// The bits of a mode that say that it is one of a directory, or of a file.
+const DIR: u32 = 0o40000;
 
-const FILE_MODE: u32 = 0o100755;
+const FILE: u32 = 0o100000;
+
+/// All others of them.
+const RIGHTS: u32 = 0o1000;
 
 /// The bytes of a unit.
 const UNIT: u32 = UNIT_BYTES;
 
 impl Server {
-    /// Writes the reply that carries an answer. Whoever asks is reported as the owner of all.
+    /// Writes the reply that carries an answer.
     pub(crate) fn write_answer(
         &self,
         header: &Header,
@@ -63,21 +66,12 @@ impl Server {
             Answer::Entries { handle, at, size } => {
                 self.write_entries(unique, (*handle, *at, *size), reply)
             }
-            Answer::Entry(attributes) => write_entry(
-                reply,
-                unique,
-                &self.entry(header, attributes),
-            ),
+            Answer::Entry(attributes) => write_entry(reply, unique, &self.entry(attributes)),
             Answer::Attributes(attributes) => {
-                write_attr(reply, unique, FOR_EVER, &attr(header, attributes))
+                write_attr(reply, unique, FOR_EVER, &self.attr(attributes))
             }
             Answer::Created(attributes) => {
-                write_create(
-                    reply,
-                    unique,
-                    &self.entry(header, attributes),
-                    &open_file(0),
-                )
+                write_create(reply, unique, &self.entry(attributes), &open_file(0))
             }
         }
     }
@@ -115,16 +109,45 @@ impl Server {
         Ok(())
     }
 
-    fn entry(&self, header: &Header, attributes: &Attributes) -> Entry
-        ensures { result ≡ entry_of header.now result.generation attributes.now }
+    fn entry(&self, attributes: &Attributes) -> Entry
+        ensures { result ≡ entry_of self.now attributes.now }
     {
         Entry {
             node: attributes.node,
-            generation: self.tables.nodes.generation(attributes.node),
+            generation: self.tables.times.generation(attributes.node),
             entry_valid: FOR_EVER,
             attr_valid: FOR_EVER,
-            attr: attr(header, attributes),
+            attr: self.attr(attributes),
         }
+    }
+
+    fn attr(&self, attributes: &Attributes) -> Attr
+        ensures { result ≡ attr_of self.now attributes.now }
+    {
+        let times = self.tables.times.node_times(attributes.node);
+        Attr {
+            inode: attributes.node,
+            size: attributes.size,
+            blocks: attributes.size.div_ceil(512),
+            accessed: times.accessed,
+            modified: times.modified,
+            changed: times.changed,
+            mode: self.mode(attributes.is_dir),
+            links: attributes.links,
+            uid: self.owner.uid,
+            gid: self.owner.gid,
+            device: 0,
+            block_size: UNIT,
+        }
+    }
+
+    fn mode(&self, is_dir: bool) -> u32
+        ensures { result ≡ mode_of self.now.owner is_dir }
+    {
+        if is_dir {
+            return DIR + self.owner.dir_mode % RIGHTS;
+        }
+        FILE + self.owner.file_mode % RIGHTS
     }
 }
 
@@ -154,33 +177,6 @@ fn write_bytes(reply: &mut Vec<u8>, unique: u64, bytes: &[u8]) -> Result<(), All
     write_data(reply, unique, bytes)
 }
 
-fn attr(header: &Header, attributes: &Attributes) -> Attr
-    ensures { result ≡ attr_of header.now attributes.now }
-{
-    let time = Time {
-        seconds: attributes.changed,
-        nanoseconds: 0,
-    };
-    Attr {
-        inode: attributes.node,
-        size: attributes.size,
-        blocks: attributes.size.div_ceil(512),
-        accessed: time,
-        modified: time,
-        changed: time,
-        mode: if attributes.is_dir {
-            DIR_MODE
-        } else {
-            FILE_MODE
-        },
-        links: attributes.links,
-        uid: header.uid,
-        gid: header.gid,
-        device: 0,
-        block_size: UNIT,
-    }
-}
-
 fn open_file(handle: u64) -> OpenFile
     ensures { result ≡ record { handle = handle; flags = 2 } }
 {
@@ -198,7 +194,7 @@ fn stat_fs(usage: Usage) -> StatFs
         blocks_free: usage.free,
         blocks_available: usage.free,
         files: MAX_INODE as u64,
-        files_free: usage.free.min(MAX_INODE as u64),
+        files_free: usage.free_nodes,
         block_size: UNIT,
         name_len: MAX_NAME as u32,
     }

@@ -1,9 +1,11 @@
 // What each request asks of the server and of the tree.
-ghost use Rattle.std.specs.Prelude.{◌≡◌};
+ghost use Rattle.std.specs.Prelude.{◌≡◌, OnOk};
 ghost use Rattle.fuse_wire.specs.declared.errno.Refusal.{Refusal};
 ghost use Rattle.fuse_server.specs.declared.answer.Answer.TheVariants as answer;
 ghost use Rattle.fuse_server.specs.Creations.{MakesNode, is_file_mode, creation_by};
 ghost use Rattle.fuse_server.specs.Requests.{Agrees, Serves, ServesFile, ServesName, ServesOther, ServesRequest, answer_of, end_answer, lookup_answer};
+ghost use Rattle.fuse_server.specs.TimeChanges.{FileTimes, NameTimes, ServesTimes};
+ghost use Rattle.mount_nodes.specs.Times.{GoesOn, IsWritten};
 
 use crate::answer::Answer;
 use crate::server::Server;
@@ -29,7 +31,8 @@ impl Server {
         header: &Header,
         request: &Request<'_>,
     ) -> Answer
-        ensures { ServesRequest T.Tree self.old self.new header.now.node request.now result tree.old tree.new }
+        ensures serves { ServesRequest T.Tree self.old self.new header.now.node request.now result tree.old tree.new }
+        ensures times { GoesOn self.old.tables.times self.new.tables.times }
     {
         let node = header.node;
         match *request {
@@ -51,7 +54,8 @@ fn serve_nodes<T: Tree>(
     node: u64,
     request: &Request<'_>,
 ) -> Answer
-    ensures { Serves T.Tree tables.old tables.new node request.now result tree.old tree.new }
+    ensures serves { Serves T.Tree tables.old tables.new node request.now result tree.old tree.new }
+    ensures times { ServesTimes tables.old.times tables.new.times node request.now result }
 {
     match *request {
         Request::Lookup { name } => lookup_answer(tables.look_up(tree, node, name)),
@@ -72,10 +76,11 @@ fn serve_file<T: Tree>(
     node: u64,
     request: &Request<'_>,
 ) -> Answer
-    ensures { ServesFile T.Tree tables.old tables.new node request.now result tree.old tree.new }
+    ensures serves { ServesFile T.Tree tables.old tables.new node request.now result tree.old tree.new }
+    ensures times { FileTimes tables.old.times tables.new.times node request.now result }
 {
     match *request {
-        Request::SetAttr(set) => attributes_answer(tables.set_attributes(tree, node, set.size)),
+        Request::SetAttr(set) => attributes_answer(tables.set_attributes(tree, node, set)),
         Request::Open { .. } => opened_answer(tables.open(node)),
         Request::Read { at, size, .. } => data_answer(tables.read(tree, node, at, size)),
         Request::Release { .. } => done_answer(tables.release(tree, node)),
@@ -90,7 +95,8 @@ fn serve_name<T: Tree>(
     node: u64,
     request: &Request<'_>,
 ) -> Answer
-    ensures { ServesName T.Tree tables.old tables.new node request.now result tree.old tree.new }
+    ensures serves { ServesName T.Tree tables.old tables.new node request.now result tree.old tree.new }
+    ensures times { NameTimes tables.old.times tables.new.times node request.now result }
 {
     match *request {
         Request::Create { name, flags, .. } => {
@@ -142,7 +148,9 @@ fn make_node<T: Tree>(
     name: &[u8],
     mode: u32,
 ) -> Result<Attributes, Refusal>
-    ensures { MakesNode T.Tree tables.old.nodes node name.now mode result tree.old tree.new }
+    ensures makes { MakesNode T.Tree tables.old.nodes node name.now mode result tree.old tree.new }
+    ensures times { GoesOn tables.old.times tables.new.times }
+    ensures made { OnOk result (IsWritten tables.old.times tables.new.times node) }
 {
     if !is_file_mode(mode) {
         return Err(Refusal::Posix(Errno::NotPermitted));
@@ -157,7 +165,8 @@ fn serve_other<T: Tree>(
     node: u64,
     request: &Request<'_>,
 ) -> Answer
-    ensures { ServesOther T.Tree tables.old tables.new node request.now result tree.old tree.new }
+    ensures serves { ServesOther T.Tree tables.old tables.new node request.now result tree.old tree.new }
+    ensures times { tables.new.times ≡ tables.old.times }
 {
     match *request {
         Request::Init(init) => agree(&init),
@@ -171,6 +180,7 @@ fn serve_other<T: Tree>(
 fn serve_end(tables: &mut Tables, node: u64, request: &Request<'_>) -> Answer
     ensures ends { result ≡ end_answer request.now }
     ensures refused { (e : Refusal) → result ≡ answer.Refused e → tables.new ≡ tables.old }
+    ensures times { tables.new.times ≡ tables.old.times }
 {
     match *request {
         Request::Forget { count } => {
@@ -186,7 +196,9 @@ fn serve_end(tables: &mut Tables, node: u64, request: &Request<'_>) -> Answer
     }
 }
 
-fn forget_all(tables: &mut Tables, nodes: &[u8]) {
+fn forget_all(tables: &mut Tables, nodes: &[u8])
+    ensures { tables.new.times ≡ tables.old.times }
+{
     for place in 0..nodes.len() {
         match forget_at(nodes, place) {
             Some((node, count)) => tables.nodes.forget(node, count),

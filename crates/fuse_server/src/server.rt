@@ -12,9 +12,11 @@ ghost use Rattle.fuse_server.specs.Answers.{IsAnswered, IsReply, is_silent};
 ghost use Rattle.fuse_server.specs.Replies.{IsReplyFor};
 ghost use Rattle.fuse_server.specs.Refusals.{IsNoAnswer};
 ghost use Rattle.fuse_server.specs.Requests.{IsAnswerTo, IsServed};
+ghost use Rattle.mount_nodes.specs.Times.{GoesOn, IsBegun};
 
 use crate::answer::Answer;
 use crate::listings::Listing;
+use crate::owner::Owner;
 use crate::replies::write_refusal;
 use fuse_wire::{Header, Refusal, WireError, read_header, read_request};
 use mount_nodes::{Tables, Tree};
@@ -43,17 +45,29 @@ pub struct Server {
     pub(crate) tables: Tables,
     // the directories that are open, by their handles
     pub(crate) listings: Vec<Option<Listing>>,
+    pub(crate) owner: Owner,
 }
 
 impl Server {
-    /// The server of a mount of which the kernel knows nothing yet, with nothing open. The tree's client has nothing open.
-    pub fn new(alloc: Global) -> Result<Server, AllocError>
-        ensures { IfOk result (λ server. server.listings.items ≡ []) }
+    /// The server of a mount of which the kernel knows nothing yet, with nothing open. The tree's client has nothing open. The mount begins at
+    /// this time of day, in nanoseconds from the beginning of 1970 on, and all of it is told to be of this owner.
+    pub fn new(alloc: Global, now: u64, owner: Owner) -> Result<Server, AllocError>
+        ensures listings { IfOk result (λ server. server.listings.items ≡ []) }
+        ensures times { IfOk result (λ server. IsBegun server.tables.times now) }
+        ensures owner { IfOk result (λ server. server.owner ≡ owner) }
     {
         Ok(Server {
-            tables: Tables::new(alloc)?,
+            tables: Tables::new(alloc, now)?,
             listings: Vec::new(alloc),
+            owner,
         })
+    }
+
+    /// Sets the time of day, which the next changes get.
+    pub fn see_time(&mut self, now: u64)
+        ensures { self.new ≡ record self.old { tables = record self.old.tables { times = record self.old.tables.times { day = now } } } }
+    {
+        self.tables.times.see(now);
     }
 
     /// Does what a message asks, and puts its reply into `reply`, which is empty where it takes none: one that the kernel forgets nodes
@@ -62,7 +76,7 @@ impl Server {
     ///
     /// Refused where the bytes are no whole message, with nothing done, and where memory is wanting for a reply of 16 bytes, with the request
     /// served all the same. A message that spells no request leaves the server as it was.
-    #[tactic(auto, unfolding(fuse_wire::specs::Spelling::header_of))]
+    #[tactic(auto, using(mount_nodes::proofs::TimeLemmas::goes_none), unfolding(fuse_wire::specs::Spelling::header_of))]
     pub fn answer<T: Tree>(
         &mut self,
         tree: &mut T,
@@ -75,6 +89,7 @@ impl Server {
         ensures refused { IfErr result (IsNoAnswer message.now) }
         ensures unasked { (e : WireError) → result ≡ Err (ServeError.Message e) → (tree.new ≡ tree.old) × (self.new ≡ self.old) }
         ensures unspelled { ((h : Header) (r : Request) → Spells message.now h r → ⊥) → self.new ≡ self.old }
+        ensures times { GoesOn self.old.tables.times self.new.tables.times }
         ensures unreplied { result ≡ Err ServeError.Memory → (said : Answer) × IsAnswerTo T.Tree self.old self.new message.now said tree.old tree.new }
     {
         reply.clear();
@@ -95,6 +110,7 @@ impl Server {
         requires { header.now ≡ header_of message.now }
         ensures answers { IsAnswerTo T.Tree self.old self.new message.now result tree.old tree.new }
         ensures unspelled { ((h : Header) (r : Request) → Spells message.now h r → ⊥) → self.new ≡ self.old }
+        ensures times { GoesOn self.old.tables.times self.new.tables.times }
     {
         match read_request(message) {
             Ok((_, request)) => self.serve(tree, header, &request),

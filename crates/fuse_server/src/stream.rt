@@ -1,9 +1,11 @@
 // Messages come in, one after the other, and replies go out.
+use crate::owner::Owner;
 use crate::server::{ServeError, Server};
 use fuse_wire::{MAX_MESSAGE, WireError, message_length};
 use mount_nodes::Tree;
 use std::alloc::{AllocError, Global};
 use std::io::{self, ErrorKind, Read, Write};
+use std::time::Clock;
 use thiserror::Error;
 
 /// ENODEV: the mount has ended.
@@ -20,6 +22,8 @@ pub enum StreamError {
     Message(WireError),
     #[error("the input ends within a message")]
     CutOff,
+    #[error("the time of day can't be read: {0}")]
+    Clock(io::Error),
     #[error("out of memory")]
     Memory,
 }
@@ -30,10 +34,11 @@ impl From<AllocError> for StreamError {
     }
 }
 
-/// Bytes that came and are not served yet. Each read is offered room for the longest message, as the kernel's device wants it, which
-/// hands out one message a read; a pipe may hand out several, or parts.
+/// Bytes that came and are not served yet, and when they came. Each read is offered room for the longest message, as the kernel's device
+/// wants it, which hands out one message a read; a pipe may hand out several, or parts.
 #[derive(Drop)]
-struct Inbox {
+struct Inbox<'a, C: Clock> {
+    clock: &'a C,
     bytes: Vec<u8>,
     len: usize,
 }
@@ -42,35 +47,50 @@ struct Inbox {
 /// each reply the tree does what it would in idle time.
 ///
 /// A reply for which nobody waits any more is dropped. Refused where the input ends within a message or has what is no message, where
-/// a device fails, and where memory is wanting for a refusal. What was answered is kept all the same.
-pub fn serve_stream<T: Tree, R: Read, W: Write>(
+/// a device fails, where the clock can't be read as the mount begins, and where memory is wanting for a refusal. What was answered is kept
+/// all the same.
+pub fn serve_stream<T: Tree, C: Clock, R: Read, W: Write>(
     alloc: Global,
+    clock: &C,
+    owner: Owner,
     tree: &mut T,
     input: &mut R,
     output: &mut W,
 ) -> Result<(), StreamError> {
-    let mut server = Server::new(alloc)?;
-    serve_input(alloc, &mut server, tree, input, output)
+    match time_of_day(clock) {
+        Ok(now) => {
+            let mut server = Server::new(alloc, now, owner)?;
+            let mut inbox = Inbox::new(alloc, clock)?;
+            serve_input(alloc, &mut server, tree, &mut inbox, input, output)
+        }
+        Err(error) => Err(StreamError::Clock(error)),
+    }
 }
 
-// Makes room for what comes and for a reply, and serves. Who owns it lends it on: the check of borrows grows with what a function owns.
-fn serve_input<T: Tree, R: Read, W: Write>(
+// The time of day, in nanoseconds from the beginning of 1970 on.
+fn time_of_day<C: Clock>(clock: &C) -> io::Result<u64> {
+    let time = clock.since_1970()?;
+    Ok(time.as_nanos().min(u64::MAX as u128) as u64)
+}
+
+// Makes room for a reply, and serves. Who owns it lends it on: the check of borrows grows with what a function owns.
+fn serve_input<T: Tree, C: Clock, R: Read, W: Write>(
     alloc: Global,
     server: &mut Server,
     tree: &mut T,
+    inbox: &mut Inbox<'_, C>,
     input: &mut R,
     output: &mut W,
 ) -> Result<(), StreamError> {
-    let mut inbox = Inbox::new(alloc)?;
     let mut reply = Vec::with_capacity(alloc, MAX_MESSAGE)?;
-    serve_messages(server, tree, &mut inbox, &mut reply, input, output)
+    serve_messages(server, tree, inbox, &mut reply, input, output)
 }
 
 // Reads and serves, up to the end of the input or of the mount.
-fn serve_messages<T: Tree, R: Read, W: Write>(
+fn serve_messages<T: Tree, C: Clock, R: Read, W: Write>(
     server: &mut Server,
     tree: &mut T,
-    inbox: &mut Inbox,
+    inbox: &mut Inbox<'_, C>,
     reply: &mut Vec<u8>,
     input: &mut R,
     output: &mut W,
@@ -84,14 +104,17 @@ fn serve_messages<T: Tree, R: Read, W: Write>(
     Ok(())
 }
 
-// Serves each whole message that came.
-fn serve_inbox<T: Tree, W: Write>(
+// Serves each whole message that came, at the time of day; where the clock can't be read, at the time that was seen last.
+fn serve_inbox<T: Tree, C: Clock, W: Write>(
     server: &mut Server,
     tree: &mut T,
-    inbox: &mut Inbox,
+    inbox: &mut Inbox<'_, C>,
     reply: &mut Vec<u8>,
     output: &mut W,
 ) -> Result<(), StreamError> {
+    if let Ok(now) = time_of_day(inbox.clock) {
+        server.see_time(now);
+    }
     let mut at = 0;
     for _ in 0..inbox.len {
         let len = serve_first(server, tree, inbox.bytes_from(at), reply, output)?;
@@ -164,9 +187,10 @@ fn write_reply<W: Write>(output: &mut W, reply: &[u8]) -> Result<(), StreamError
     Ok(())
 }
 
-impl Inbox {
-    fn new(alloc: Global) -> Result<Inbox, AllocError> {
+impl<'a, C: Clock> Inbox<'a, C> {
+    fn new(alloc: Global, clock: &'a C) -> Result<Self, AllocError> {
         Ok(Inbox {
+            clock,
             bytes: vec![in alloc; 0u8; 2 * MAX_MESSAGE]?,
             len: 0,
         })

@@ -2,6 +2,8 @@
 use Rattle.std.specs.Prelude.{ℕ, List, [], ◌∷◌, ◌++◌, Option, Some, None}
 use Rattle.fuse_wire.specs.declared.opcode.Opcode.{Opcode}
 use Rattle.fuse_wire.specs.declared.opcode.Opcode.TheVariants as opcode
+use Rattle.fuse_wire.specs.declared.request.NewTime.{NewTime}
+use Rattle.fuse_wire.specs.declared.request.NewTime.TheVariants as times
 use Rattle.fuse_wire.specs.declared.request.Request.{Request}
 use Rattle.fuse_wire.specs.declared.request.Request.TheVariants as request
 
@@ -13,13 +15,19 @@ abbrev pub numbers : Option ℕ → List ℕ
 numbers None = 0 ∷ []
 numbers (Some n) = 1 ∷ n ∷ []
 
+-- a time that may be lacking, behind whether it is there, and is that of the request
+abbrev pub time_numbers : Option NewTime → List ℕ
+time_numbers None = 0 ∷ []
+time_numbers (Some times.Now) = 1 ∷ []
+time_numbers (Some (times.At t)) = 2 ∷ t.seconds ∷ t.nanoseconds ∷ []
+
 abbrev pub contents : Request → Contents
 contents (request.Init i) = (opcode.Init, i.major ∷ i.minor ∷ i.max_readahead ∷ i.flags ∷ [], [])
 contents (request.Lookup name) = (opcode.Lookup, [], name.now ∷ [])
 contents (request.Forget count) = (opcode.Forget, count ∷ [], [])
 contents (request.BatchForget nodes) = (opcode.BatchForget, [], nodes.now ∷ [])
 contents (request.GetAttr handle) = (opcode.GetAttr, numbers handle, [])
-contents (request.SetAttr s) = (opcode.SetAttr, s.valid ∷ numbers s.handle ++ numbers s.size, [])
+contents (request.SetAttr s) = (opcode.SetAttr, s.valid ∷ numbers s.handle ++ numbers s.size ++ time_numbers s.accessed ++ time_numbers s.modified, [])
 contents (request.MkNod name mode) = (opcode.MkNod, mode ∷ [], name.now ∷ [])
 contents (request.MkDir name mode) = (opcode.MkDir, mode ∷ [], name.now ∷ [])
 contents (request.Unlink name) = (opcode.Unlink, [], name.now ∷ [])

@@ -1,13 +1,15 @@
 -- What bytes a request spells: its fields by their places in the structures of linux/fuse.h.
-use Rattle.std.specs.Prelude.{◌≡◌, ℕ, ◌+◌, ◌*◌, ◌≤◌, List, length, drop}
+use Rattle.std.specs.Prelude.{◌≡◌, ℕ, ◌+◌, ◌*◌, ◌≤◌, List, length, drop, Option, Some, None, if◌then◌else◌}
 use Rattle.fuse_wire.specs.declared.header.Header.{Header}
 use Rattle.fuse_wire.specs.declared.init.Init.{Init}
+use Rattle.fuse_wire.specs.declared.request.NewTime.{NewTime}
+use Rattle.fuse_wire.specs.declared.request.NewTime.TheVariants as times
 use Rattle.fuse_wire.specs.declared.request.SetAttr.{SetAttr}
 use Rattle.fuse_wire.specs.declared.request.Request.{Request}
 use Rattle.fuse_wire.specs.declared.request.Request.TheVariants as request
 use Rattle.fuse_wire.specs.declared.opcode.Opcode.{Opcode}
 use Rattle.fuse_wire.specs.declared.opcode.Opcode.TheVariants as opcode
-use Rattle.fuse_wire.specs.Fields.{u32_at, u64_at, if_bit}
+use Rattle.fuse_wire.specs.Fields.{u32_at, u64_at, has_bit, if_bit}
 use Rattle.fuse_wire.specs.Names.{EndsWithName, EndsWithNames}
 use Rattle.fuse_wire.specs.Opcodes.{opcode_of}
 
@@ -31,12 +33,22 @@ pub record IsWhole (bytes : List ℕ) : Type 0 where
 unfoldable pub init_of : List ℕ → Init
 init_of body = record { major = u32_at 0 body; minor = u32_at 4 body; max_readahead = u32_at 8 body; flags = u32_at 12 body }
 
--- the fields of SETATTR: bit 6 of the first says that the handle counts, and bit 3 that the size does
+-- a time that counts only where a bit is set; where another is, too, it is that of the request
+abbrev pub new_time : ℕ → ℕ → ℕ → ℕ → ℕ → Option NewTime
+new_time given now flags seconds nanoseconds =
+    if has_bit given flags
+    then Some (if has_bit now flags then times.Now else times.At (record { seconds = seconds; nanoseconds = nanoseconds }))
+    else None
+
+-- the fields of SETATTR: bit 6 of the first says that the handle counts, and bit 3 that the size does; bits 4 and 7 tell of the time of the last
+-- reading, and 5 and 8 of that of the last change
 unfoldable pub set_attr_of : List ℕ → SetAttr
 set_attr_of body = record {
   valid = u32_at 0 body;
   handle = if_bit 6 (u32_at 0 body) (u64_at 8 body);
   size = if_bit 3 (u32_at 0 body) (u64_at 16 body);
+  accessed = new_time 4 7 (u32_at 0 body) (u64_at 32 body) (u32_at 56 body);
+  modified = new_time 5 8 (u32_at 0 body) (u64_at 40 body) (u32_at 60 body);
 }
 
 -- a body of this opcode spells this request

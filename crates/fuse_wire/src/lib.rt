@@ -37,5 +37,5 @@ pub use reply_writes::{
     REPLY_ROOM, write_absence, write_attr, write_count, write_create, write_data, write_empty,
     write_entry, write_error, write_init, write_open, write_statfs,
 };
-pub use request::{Request, SetAttr, forget_at};
+pub use request::{NewTime, Request, SetAttr, forget_at};
 pub use request_reads::read_request;

@@ -3,6 +3,7 @@ ghost use Rattle.fuse_wire.specs.Fields.{u64_at};
 
 use crate::fields::u64_at;
 use crate::init::Init;
+use crate::replies::Time;
 
 /// What the kernel asks for. The header's node is the one it is about; names and data are lent from the message.
 #[derive(Clone, Copy)]
@@ -117,7 +118,16 @@ pub enum Request<'a> {
     },
 }
 
-/// Which attributes of a node are to change. Of the mode, the owner and the times the flags alone are read.
+/// The time that a node is to get.
+#[derive(Clone, Copy)]
+pub enum NewTime {
+    /// That at which it is asked.
+    Now,
+    /// This one; seconds before 1970 are those of a signed number.
+    At(Time),
+}
+
+/// Which attributes of a node are to change. Of the mode and the owner the flags alone are read.
 #[derive(Clone, Copy)]
 pub struct SetAttr {
     /// Which fields count (`FATTR_MODE` and the like).
@@ -126,6 +136,10 @@ pub struct SetAttr {
     pub handle: Option<u64>,
     /// The size that the file is to have, in bytes.
     pub size: Option<u64>,
+    /// The time at which it is to have been read last.
+    pub accessed: Option<NewTime>,
+    /// The time at which it is to have been written last.
+    pub modified: Option<NewTime>,
 }
 
 /// The node at a place of the list of a `BatchForget`, and how many of its lookups are forgotten; `None` behind the last.

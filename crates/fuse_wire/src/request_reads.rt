@@ -4,7 +4,7 @@ ghost use Rattle.fuse_wire.specs.declared.request.Request.{Request};
 ghost use Rattle.fuse_wire.specs.declared.error.WireError.{WireError};
 ghost use Rattle.fuse_wire.specs.declared.opcode.Opcode.TheVariants as opcode;
 ghost use Rattle.fuse_wire.specs.Layout.{IsLaidOut, body_of};
-ghost use Rattle.fuse_wire.specs.Spelling.{Spells, SpellsBody, init_of, set_attr_of};
+ghost use Rattle.fuse_wire.specs.Spelling.{Spells, SpellsBody, init_of, new_time, set_attr_of};
 ghost use Rattle.fuse_wire.specs.Reasons.{IsWrong};
 ghost use Rattle.fuse_wire.specs.Fields.{if_bit, u32_at, u64_at};
 
@@ -16,7 +16,8 @@ use crate::init::Init;
 use crate::layout::{body_of, check_body};
 use crate::names::{name_at, names_at};
 use crate::opcode::{Opcode, opcode_of};
-use crate::request::{Request, SetAttr};
+use crate::replies::Time;
+use crate::request::{NewTime, Request, SetAttr};
 
 /// The request that exactly these bytes spell, with its header. Names and data are lent from the bytes; fields that no variant has
 /// are not looked at.
@@ -141,7 +142,27 @@ fn read_changes(body: &[u8]) -> SetAttr
         valid,
         handle: choose(6, valid, u64_at(body, 8)),
         size: choose(3, valid, u64_at(body, 16)),
+        accessed: choose_time((4, 7), valid, u64_at(body, 32), u32_at(body, 56)),
+        modified: choose_time((5, 8), valid, u64_at(body, 40), u32_at(body, 60)),
     }
+}
+
+// A time that counts only where the first bit is set; where the second is, too, it is that of the request.
+fn choose_time(bits: (u32, u32), flags: u32, seconds: u64, nanoseconds: u32) -> Option<NewTime>
+    requires given { bits.0 < 32 }
+    requires now { bits.1 < 32 }
+    ensures { result ≡ new_time bits.0 bits.1 flags seconds nanoseconds }
+{
+    if !has_bit(bits.0, flags) {
+        return None;
+    }
+    if has_bit(bits.1, flags) {
+        return Some(NewTime::Now);
+    }
+    Some(NewTime::At(Time {
+        seconds,
+        nanoseconds,
+    }))
 }
 
 // A value that counts only where a bit is set.

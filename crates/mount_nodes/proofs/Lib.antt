@@ -1,3 +1,5 @@
+pub mod TimeLemmas
+pub mod StampLemmas
 pub mod PathLemmas
 pub mod CallLemmas
 pub mod UpkeepLemmas

@@ -33,7 +33,7 @@ last_descriptor node = if nat_lt 1 node.opens then None else node.descriptor
 module _ {S : Type 0} where
   -- a node that is known is described once more
   abbrev pub DescribesAgain : ℕ → Description → Result Attributes Refusal → S → S → Type 0
-  DescribesAgain id d result s t = (changed : ℕ) × Answers (attributes_of id changed d) result s t
+  DescribesAgain id d result s t = Answers (attributes_of id d) result s t
 
 module _ {S : Type 0} (tree : Ghosts S) where
   -- a node has the descriptor, or is opened at its path, and gets it

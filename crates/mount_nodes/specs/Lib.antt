@@ -1,5 +1,6 @@
 pub mod Refusals
 pub mod Paths
+pub mod Times
 pub mod Calls
 pub mod Nodes
 pub mod Upkeep

@@ -15,18 +15,18 @@ use Rattle.mount_nodes.specs.Calls.{description_of, done_of, Answers, AtPath, As
 use Rattle.mount_nodes.specs.Paths.{node_at, is_unnamed, name_path, path_below, path_of}
 use Rattle.mount_nodes.specs.Refusals.{IsMemory}
 
--- the attributes of a node whose last change this is, by what the tree answers of it
-abbrev pub attributes_of : ℕ → ℕ → Description → Attributes
-attributes_of id changed (description.File size names) = record { node = id; is_dir = false; size = size; links = names; changed = changed }
-attributes_of id changed (description.Dir entries) = record { node = id; is_dir = true; size = 0; links = 1; changed = changed }
+-- the attributes of a node, by what the tree answers of it
+abbrev pub attributes_of : ℕ → Description → Attributes
+attributes_of id (description.File size names) = record { node = id; is_dir = false; size = size; links = names }
+attributes_of id (description.Dir entries) = record { node = id; is_dir = true; size = 0; links = 1 }
 
 -- the attributes that were last answered of a node
 abbrev pub kept_attributes : Nodes → ℕ → Option Attributes
-kept_attributes nodes id = option_map (λ node. record { node = id; is_dir = node.is_dir; size = node.size; links = node.links; changed = node.changed }) (node_at nodes id)
+kept_attributes nodes id = option_map (λ node. record { node = id; is_dir = node.is_dir; size = node.size; links = node.links }) (node_at nodes id)
 
 -- the attributes are those of a node that was found, and there are none if none was
 abbrev pub IsDescribedAs : Description → Result ℕ Refusal → Result Attributes Refusal → Type 0
-IsDescribedAs d (Ok id) result = (changed : ℕ) × (result ≡ Ok (attributes_of id changed d))
+IsDescribedAs d (Ok id) result = result ≡ Ok (attributes_of id d)
 IsDescribedAs d (Err e) result = result ≡ Err e
 
 module _ {S : Type 0} (tree : Ghosts S) where
@@ -36,7 +36,7 @@ module _ {S : Type 0} (tree : Ghosts S) where
       ((node_at nodes id ≡ None) × (result ≡ Err refusal.StaleNode) × (t ≡ s))
       ⊎ ((kept : Attributes) × (kept_attributes nodes id ≡ Some kept)
       × (((is_unnamed nodes id ≡ true) × Answers kept result s t)
-      ⊎ ((is_unnamed nodes id ≡ false) × AtPath (path_of nodes id) (λ path. MayAsk tree (call.Stat path) description_of (λ d. Answers (attributes_of id kept.changed d))) result s t)))
+      ⊎ ((is_unnamed nodes id ≡ false) × AtPath (path_of nodes id) (λ path. MayAsk tree (call.Stat path) description_of (λ d. Answers (attributes_of id d))) result s t)))
 
   -- The node of a path is found; the tree may be asked for it which file is there. That it can't answer refuses it, as want of memory does.
   abbrev pub Finds : List ℕ → Result ℕ Refusal → S → S → Type 0

@@ -29,8 +29,8 @@ abbrev pub zeros_from : ℕ → ℕ → ℕ
 zeros_from old new = if nat_lt old new then new - 1 else new
 
 -- the answer for a node whose size is set
-abbrev pub resized : Attributes → ℕ → ℕ → Attributes
-resized kept size changed = record { node = kept.node; is_dir = kept.is_dir; size = size; links = kept.links; changed = changed }
+abbrev pub resized : Attributes → ℕ → Attributes
+resized kept size = record { node = kept.node; is_dir = kept.is_dir; size = size; links = kept.links }
 
 module _ {S : Type 0} (tree : Ghosts S) where
   -- zeros are written from a place on, and reach another; these are the counts that were answered
@@ -46,7 +46,7 @@ module _ {S : Type 0} (tree : Ghosts S) where
   -- behind zeros a file without a name has the size, which is kept and answered
   abbrev pub Fills : Attributes → ℕ → ℕ → Result Attributes Refusal → S → S → Type 0
   Fills kept size number result s t = (end : Result (Unit {0}) Refusal) × WritesZeros number (zeros_from kept.size size) (max kept.size size) end s t
-      × MatchResult end (λ _. (changed : ℕ) × (result ≡ Ok (resized kept size changed))) (λ e. result ≡ Err e)
+      × MatchResult end (λ _. result ≡ Ok (resized kept size)) (λ e. result ≡ Err e)
 
   -- so it is by its descriptor, up to the bytes of the greatest file
   abbrev pub ResizesUnnamed : Nodes → ℕ → Attributes → ℕ → Result Attributes Refusal → S → S → Type 0

@@ -21,8 +21,6 @@ pub struct Attributes {
     /// In bytes.
     pub size: u64,
     pub links: u32,
-    /// The number of its last change, which is reported as its time, in seconds.
-    pub changed: u64,
 }
 
 impl Tables {
@@ -31,28 +29,25 @@ impl Tables {
     pub fn describe<T: Tree>(&mut self, tree: &mut T, id: u64) -> Result<Attributes, Refusal>
         ensures describes { Describes T.Tree self.old.nodes id result tree.old tree.new }
         ensures refused { OnErr result (self.new ≡ self.old) }
+        ensures times { self.new.times ≡ self.old.times }
     {
         let kept = self.attributes(id)?;
         if is_unnamed(&self.nodes, id) {
             return Ok(kept);
         }
-        self.describe_named(tree, id, kept.changed)
+        self.describe_named(tree, id)
     }
 
-    // What the tree answers of a node that has a name, and was changed last by this change.
-    fn describe_named<T: Tree>(
-        &mut self,
-        tree: &mut T,
-        id: u64,
-        changed: u64,
-    ) -> Result<Attributes, Refusal>
-        ensures describes { AtPath (path_of self.old.nodes id) (λ path. MayAsk T.Tree (call.Stat path) description_of (λ d. Answers (attributes_of id changed d))) result tree.old tree.new }
+    // What the tree answers of a node that has a name.
+    fn describe_named<T: Tree>(&mut self, tree: &mut T, id: u64) -> Result<Attributes, Refusal>
+        ensures describes { AtPath (path_of self.old.nodes id) (λ path. MayAsk T.Tree (call.Stat path) description_of (λ d. Answers (attributes_of id d))) result tree.old tree.new }
         ensures refused { OnErr result (self.new ≡ self.old) }
+        ensures times { self.new.times ≡ self.old.times }
     {
         let path = path_of(self.alloc, &self.nodes, id)?;
         let description = stat(self.alloc, tree, &path)?;
         self.note(id, description);
-        Ok(attributes_of(id, changed, description))
+        Ok(attributes_of(id, description))
     }
 
     /// The attributes that a reply had last of a node.
@@ -66,30 +61,15 @@ impl Tables {
             is_dir: node.is_dir,
             size: node.size,
             links: node.links,
-            changed: node.changed,
         })
     }
 
-    /// The change that was the last of a node; the last of all where it is not known.
-    pub(crate) fn last_change(&self, id: u64) -> u64 {
-        match self.nodes.get(id) {
-            Some(node) => node.changed,
-            None => self.changes,
-        }
-    }
-
     /// Notes what the tree answered of a node.
-    pub(crate) fn note(&mut self, id: u64, description: Description) {
+    pub(crate) fn note(&mut self, id: u64, description: Description)
+        ensures { self.new.times ≡ self.old.times }
+    {
         if let Some(node) = self.nodes.get_mut(id) {
             note_in(node, description);
-        }
-    }
-
-    /// Notes that a node was changed now.
-    pub(crate) fn mark_changed(&mut self, id: u64) {
-        self.changes = self.changes.saturating_add(1);
-        if let Some(node) = self.nodes.get_mut(id) {
-            node.changed = self.changes;
         }
     }
 }
@@ -110,9 +90,9 @@ pub(crate) fn note_in(node: &mut Node, description: Description) {
     }
 }
 
-/// The attributes of a node whose last change this is, by what the tree answers of it.
-pub(crate) fn attributes_of(id: u64, changed: u64, description: Description) -> Attributes
-    ensures { result ≡ attributes_of id changed description }
+/// The attributes of a node, by what the tree answers of it.
+pub(crate) fn attributes_of(id: u64, description: Description) -> Attributes
+    ensures { result ≡ attributes_of id description }
 {
     match description {
         Description::File { size, names } => Attributes {
@@ -120,14 +100,12 @@ pub(crate) fn attributes_of(id: u64, changed: u64, description: Description) -> 
             is_dir: false,
             size,
             links: names,
-            changed,
         },
         Description::Dir { .. } => Attributes {
             node: id,
             is_dir: true,
             size: 0,
             links: 1,
-            changed,
         },
     }
 }

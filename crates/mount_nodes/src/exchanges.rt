@@ -4,6 +4,7 @@ ghost use Rattle.posix_calls.specs.declared.call.Call.TheVariants as call;
 ghost use Rattle.fuse_wire.specs.declared.errno.Refusal.TheVariants as refusal;
 ghost use Rattle.mount_nodes.specs.Calls.{Answers, Asks, done_of};
 ghost use Rattle.mount_nodes.specs.Renames.{Exchanges, ExchangesPaths};
+ghost use Rattle.mount_nodes.specs.Times.{Runs};
 ghost use Rattle.mount_nodes.specs.Upkeep.{child_at};
 
 use crate::depth::check_depth;
@@ -18,6 +19,7 @@ use std::alloc::Global;
 impl Tables {
     /// Exchanges what two names lead to, by their paths. `StaleNode` where nothing is known under one of them. Where it is refused, nothing
     /// changes.
+    #[tactic(auto, using(crate::proofs::TimeLemmas::runs_same))]
     pub(crate) fn exchange<T: Tree>(
         &mut self,
         tree: &mut T,
@@ -27,6 +29,7 @@ impl Tables {
     ) -> Result<(), Refusal>
         ensures exchanges { Exchanges T.Tree self.old.nodes (places.entry.0.folder, places.entry.0.name.now) (places.entry.1.folder, places.entry.1.name.now) first.items second.items result tree.old tree.new }
         ensures refused { OnErr result (self.new ≡ self.old) }
+        ensures times { Runs self.old.times self.new.times }
     {
         let one = self.known_child(places.0)?;
         let other = self.known_child(places.1)?;
@@ -46,7 +49,10 @@ impl Tables {
     }
 
     // Notes an exchange that was done. Two names of one node stay as they are.
-    fn end_exchange(&mut self, places: (Place<'_>, Place<'_>), one: u64, other: u64) {
+    #[tactic(auto, using(crate::proofs::TimeLemmas::runs_same))]
+    fn end_exchange(&mut self, places: (Place<'_>, Place<'_>), one: u64, other: u64)
+        ensures { Runs self.old.times self.new.times }
+    {
         if one == other {
             return;
         }
@@ -55,10 +61,10 @@ impl Tables {
             (first.folder, first.name, one),
             (second.folder, second.name, other),
         );
-        self.mark_changed(first.folder);
-        self.mark_changed(second.folder);
-        self.mark_changed(one);
-        self.mark_changed(other);
+        self.times.write(first.folder);
+        self.times.write(second.folder);
+        self.times.give_name(one);
+        self.times.give_name(other);
     }
 }
 

@@ -1,18 +1,19 @@
 // Files are opened, read, written, resized and closed.
-ghost use Rattle.std.specs.Prelude.{◌≡◌, ◌≤◌, ◌++◌, Some, None, IfOk, IfErr, OnOk, OnErr, replicate};
+ghost use Rattle.std.specs.Prelude.{◌≡◌, ◌≤◌, ◌++◌, Some, None, IsSome, IfOk, IfErr, OnOk, OnErr, replicate};
 ghost use Rattle.posix_calls.specs.declared.call.Call.TheVariants as call;
 ghost use Rattle.mount_nodes.specs.Calls.{Answers, Asks, AtPath, MayAsk, description_of, done_of, read_of, wrote_of};
 ghost use Rattle.mount_nodes.specs.Files.{Closes, DescribesAgain, Releases, Writes, handle_of};
 ghost use Rattle.mount_nodes.specs.Paths.{node_at, path_of};
 ghost use Rattle.mount_nodes.specs.Reads.{Reads, ReadsOn, readable_len};
 ghost use Rattle.mount_nodes.specs.Sizes.{Resizes, ResizesUnnamed, SetsAttributes, WritesZeros, zeros_from};
+ghost use Rattle.mount_nodes.specs.Times.{GoesOn, IsSet, IsTouched, IsWritten, Runs};
 
 use crate::attributes::Attributes;
 use crate::lookups::check_done;
 use crate::paths::{is_unnamed, path_of};
 use crate::tables::Tables;
 use crate::tree::Tree;
-use fuse_wire::Refusal;
+use fuse_wire::{Refusal, SetAttr};
 use posix_calls::{Bytes, Call, Errno, MAX_FILE, MAX_TRANSFER, Reply, SharedBytes};
 use std::alloc::{AllocError, Global};
 
@@ -24,6 +25,7 @@ impl Tables {
     pub fn open(&mut self, id: u64) -> Result<u64, Refusal>
         ensures handle { result ≡ handle_of (node_at self.old.nodes id) }
         ensures refused { OnErr result (self.new ≡ self.old) }
+        ensures times { self.new.times ≡ self.old.times }
     {
         if self.node(id)?.is_dir {
             return Err(Refusal::Posix(Errno::IsDirectory));
@@ -32,7 +34,9 @@ impl Tables {
         Ok(0)
     }
 
-    fn count_open(&mut self, id: u64) {
+    fn count_open(&mut self, id: u64)
+        ensures { self.new.times ≡ self.old.times }
+    {
         if let Some(node) = self.nodes.get_mut(id) {
             node.opens = node.opens.saturating_add(1);
         }
@@ -42,6 +46,7 @@ impl Tables {
     pub fn release<T: Tree>(&mut self, tree: &mut T, id: u64) -> Result<(), Refusal>
         ensures releases { Releases T.Tree self.old.nodes id result tree.old tree.new }
         ensures refused { OnErr result (self.new ≡ self.old) }
+        ensures times { self.new.times ≡ self.old.times }
     {
         let node = self.node(id)?;
         let (opens, descriptor) = (node.opens, node.descriptor);
@@ -55,7 +60,9 @@ impl Tables {
         Ok(())
     }
 
-    fn set_opens(&mut self, id: u64, opens: u64) {
+    fn set_opens(&mut self, id: u64, opens: u64)
+        ensures { self.new.times ≡ self.old.times }
+    {
         if let Some(node) = self.nodes.get_mut(id) {
             node.opens = opens;
         }
@@ -63,7 +70,8 @@ impl Tables {
 
     // Closes the descriptor of a node, if it has one.
     fn close_last<T: Tree>(&mut self, tree: &mut T, id: u64, descriptor: Option<u32>)
-        ensures { Closes T.Tree descriptor tree.old tree.new }
+        ensures asked { Closes T.Tree descriptor tree.old tree.new }
+        ensures times { self.new.times ≡ self.old.times }
     {
         if let Some(number) = descriptor {
             self.drop_descriptor(id);
@@ -79,7 +87,8 @@ impl Tables {
         at: u64,
         count: u32,
     ) -> Result<Bytes, Refusal>
-        ensures { Reads T.Tree self.old.nodes id at count result tree.old tree.new }
+        ensures asked { Reads T.Tree self.old.nodes id at count result tree.old tree.new }
+        ensures times { self.new.times ≡ self.old.times }
     {
         let wanted = self.readable_len(id, at, count)?;
         let number = self.take_descriptor(tree, id)?;
@@ -99,6 +108,7 @@ impl Tables {
     }
 
     /// Writes bytes into a file from an offset on, and answers how many.
+    #[tactic(auto, using(crate::proofs::TimeLemmas::runs_same))]
     pub fn write<T: Tree>(
         &mut self,
         tree: &mut T,
@@ -106,30 +116,56 @@ impl Tables {
         at: u64,
         bytes: &[u8],
     ) -> Result<u32, Refusal>
-        ensures { Writes T.Tree self.old.nodes id at bytes.now result tree.old tree.new }
+        ensures asked { Writes T.Tree self.old.nodes id at bytes.now result tree.old tree.new }
+        ensures times { Runs self.old.times self.new.times }
+        ensures written { OnOk result (IsWritten self.old.times self.new.times id) }
     {
         let number = self.take_descriptor(tree, id)?;
         let count = write_piece(self.alloc, tree, number, at, bytes)?;
-        self.mark_changed(id);
+        self.times.write(id);
         self.grow_to(id, at.saturating_add(count as u64));
         Ok(count)
     }
 
     // Notes that a file reaches as far as this at least.
-    fn grow_to(&mut self, id: u64, end: u64) {
+    fn grow_to(&mut self, id: u64, end: u64)
+        ensures { self.new.times ≡ self.old.times }
+    {
         if let Some(node) = self.nodes.get_mut(id) {
             node.size = node.size.max(end);
         }
     }
 
-    /// Sets what may be set of a node, which is a file's size, and returns its attributes. Modes, owners and times stay.
+    /// Sets what may be set of a node, which is a file's size and the node's times, and returns its attributes. Modes and owners stay.
     pub fn set_attributes<T: Tree>(
+        &mut self,
+        tree: &mut T,
+        id: u64,
+        set: SetAttr,
+    ) -> Result<Attributes, Refusal>
+        ensures asked { SetsAttributes T.Tree self.old.nodes id set.size result tree.old tree.new }
+        ensures times { GoesOn self.old.times self.new.times }
+        ensures written { IsSome set.size → OnOk result (IsTouched self.old.times self.new.times id) }
+        ensures set { OnOk result (IsSet self.new.times id set.accessed set.modified) }
+        ensures kept { set.size ≡ None → set.accessed ≡ None → set.modified ≡ None → self.new.times ≡ self.old.times }
+    {
+        let attributes = self.set_size_of(tree, id, set.size)?;
+        self.times.set(id, set.accessed, set.modified);
+        Ok(attributes)
+    }
+
+    // Sets a file's size, if one is given.
+    #[tactic(auto, using(crate::proofs::TimeLemmas::runs_same))]
+    fn set_size_of<T: Tree>(
         &mut self,
         tree: &mut T,
         id: u64,
         size: Option<u64>,
     ) -> Result<Attributes, Refusal>
-        ensures { SetsAttributes T.Tree self.old.nodes id size result tree.old tree.new }
+        ensures asked { SetsAttributes T.Tree self.old.nodes id size result tree.old tree.new }
+        ensures times { Runs self.old.times self.new.times }
+        ensures kept { size ≡ None → self.new.times ≡ self.old.times }
+        ensures written { IsSome size → OnOk result (IsWritten self.old.times self.new.times id) }
     {
         match size {
             Some(size) => self.resize(tree, id, size),
@@ -137,8 +173,11 @@ impl Tables {
         }
     }
 
+    #[tactic(auto, using(crate::proofs::TimeLemmas::runs_same))]
     fn resize<T: Tree>(&mut self, tree: &mut T, id: u64, size: u64) -> Result<Attributes, Refusal>
-        ensures { Resizes T.Tree self.old.nodes id size result tree.old tree.new }
+        ensures asked { Resizes T.Tree self.old.nodes id size result tree.old tree.new }
+        ensures times { Runs self.old.times self.new.times }
+        ensures written { OnOk result (IsWritten self.old.times self.new.times id) }
     {
         let kept = self.attributes(id)?;
         if is_unnamed(&self.nodes, id) {
@@ -147,22 +186,26 @@ impl Tables {
         self.resize_named(tree, id, size)
     }
 
+    #[tactic(auto, using(crate::proofs::TimeLemmas::runs_same))]
     fn resize_named<T: Tree>(
         &mut self,
         tree: &mut T,
         id: u64,
         size: u64,
     ) -> Result<Attributes, Refusal>
-        ensures { AtPath (path_of self.old.nodes id) (λ path. MayAsk T.Tree (call.Truncate path size) done_of (λ _. MayAsk T.Tree (call.Stat path) description_of (DescribesAgain id))) result tree.old tree.new }
+        ensures asked { AtPath (path_of self.old.nodes id) (λ path. MayAsk T.Tree (call.Truncate path size) done_of (λ _. MayAsk T.Tree (call.Stat path) description_of (DescribesAgain id))) result tree.old tree.new }
+        ensures times { Runs self.old.times self.new.times }
+        ensures written { OnOk result (IsWritten self.old.times self.new.times id) }
     {
         let path = path_of(self.alloc, &self.nodes, id)?;
         truncate(self.alloc, tree, &path, size)?;
-        self.mark_changed(id);
+        self.times.write(id);
         self.tell_known(tree, id, &path)
     }
 
     // No call resizes a file without a name. It grows by a zero at its new end; cut, it keeps zeros behind its new end, which are read by
     // nobody until it grows over them.
+    #[tactic(auto, using(crate::proofs::TimeLemmas::runs_same))]
     fn resize_unnamed<T: Tree>(
         &mut self,
         tree: &mut T,
@@ -170,7 +213,9 @@ impl Tables {
         kept: Attributes,
         size: u64,
     ) -> Result<Attributes, Refusal>
-        ensures { ResizesUnnamed T.Tree self.old.nodes id kept size result tree.old tree.new }
+        ensures asked { ResizesUnnamed T.Tree self.old.nodes id kept size result tree.old tree.new }
+        ensures times { Runs self.old.times self.new.times }
+        ensures written { OnOk result (IsWritten self.old.times self.new.times id) }
     {
         if size > MAX_FILE {
             return Err(Refusal::Posix(Errno::FileTooBig));
@@ -178,18 +223,19 @@ impl Tables {
         let number = self.take_descriptor(tree, id)?;
         let from = zeros_from(kept.size, size);
         write_zeros(self.alloc, tree, number, from, kept.size.max(size))?;
-        self.mark_changed(id);
+        self.times.write(id);
         self.set_size(id, size);
         Ok(Attributes {
             node: kept.node,
             is_dir: kept.is_dir,
             size,
             links: kept.links,
-            changed: self.changes,
         })
     }
 
-    fn set_size(&mut self, id: u64, size: u64) {
+    fn set_size(&mut self, id: u64, size: u64)
+        ensures { self.new.times ≡ self.old.times }
+    {
         if let Some(node) = self.nodes.get_mut(id) {
             node.size = size;
         }

@@ -21,6 +21,7 @@ mod paths;
 mod removals;
 mod renames;
 mod tables;
+mod times;
 mod tree;
 
 pub use attributes::Attributes;
@@ -31,4 +32,5 @@ pub use nodes::Nodes;
 pub use paths::{first_name, path_of};
 pub use renames::Place;
 pub use tables::Tables;
+pub use times::{NodeTimes, Stamp, Times};
 pub use tree::{Tree, Usage};

@@ -1,5 +1,5 @@
 // Names are looked up, and made.
-ghost use Rattle.std.specs.Prelude.{◌≡◌, ◌⊎◌, true, false, Some, None, Ok, Err, IfOk, IfErr};
+ghost use Rattle.std.specs.Prelude.{◌≡◌, ◌⊎◌, true, false, Some, None, Ok, Err, IfOk, IfErr, OnOk};
 ghost use Rattle.posix_calls.specs.Name.{is_name};
 ghost use Rattle.posix_calls.specs.declared.call.Call.TheVariants as call;
 ghost use Rattle.mount_nodes.specs.Calls.{description_of, done_of, Answers, MayAsk};
@@ -7,6 +7,7 @@ ghost use Rattle.mount_nodes.specs.Creations.{MakesAt, creation};
 ghost use Rattle.mount_nodes.specs.Nodes.{Finds, LooksUp, MakesDir, DescribesNode};
 ghost use Rattle.mount_nodes.specs.Paths.{name_path};
 ghost use Rattle.mount_nodes.specs.Refusals.{IsMemory};
+ghost use Rattle.mount_nodes.specs.Times.{GoesOn, IsWritten, Meets};
 ghost use Rattle.mount_nodes.specs.Upkeep.{Upkeep};
 
 use crate::attributes::{Attributes, attributes_of, note_in, stat};
@@ -21,13 +22,15 @@ use std::alloc::{AllocError, Global};
 
 impl Tables {
     /// Looks a name of a directory up, and counts one more lookup of the node.
+    #[tactic(auto, using(crate::proofs::TimeLemmas::met_same))]
     pub fn look_up<T: Tree>(
         &mut self,
         tree: &mut T,
         folder: u64,
         name: &[u8],
     ) -> Result<Attributes, Refusal>
-        ensures { LooksUp T.Tree self.old.nodes folder name.now result tree.old tree.new }
+        ensures asked { LooksUp T.Tree self.old.nodes folder name.now result tree.old tree.new }
+        ensures times { Meets self.old.times self.new.times }
     {
         let (name, path) = self.read_place(folder, name)?;
         self.tell_of(tree, folder, &name, &path)
@@ -44,22 +47,26 @@ impl Tables {
     }
 
     /// Makes a file that was not there, and closes it.
+    #[tactic(auto, using(crate::proofs::TimeLemmas::goes_same))]
     pub fn make_file<T: Tree>(
         &mut self,
         tree: &mut T,
         folder: u64,
         name: &[u8],
     ) -> Result<Attributes, Refusal>
-        ensures { MakesAt T.Tree self.old.nodes folder name.now (creation true false) result tree.old tree.new }
+        ensures asked { MakesAt T.Tree self.old.nodes folder name.now (creation true false) result tree.old tree.new }
+        ensures times { GoesOn self.old.times self.new.times }
+        ensures made { OnOk result (IsWritten self.old.times self.new.times folder) }
+        ensures fresh { IfOk result (λ a. IsWritten self.old.times self.new.times a.node) }
     {
         let (name, path) = self.read_place(folder, name)?;
         let number = self.open_path(tree, &path, creation(true, false))?;
         close_number(tree, number);
-        self.mark_changed(folder);
-        self.tell_of(tree, folder, &name, &path)
+        self.tell_made(tree, folder, &name, &path)
     }
 
     /// Makes a file where none is, and opens it.
+    #[tactic(auto, using(crate::proofs::TimeLemmas::goes_same))]
     pub fn create<T: Tree>(
         &mut self,
         tree: &mut T,
@@ -67,19 +74,22 @@ impl Tables {
         name: &[u8],
         flags: Flags,
     ) -> Result<Attributes, Refusal>
-        ensures { MakesAt T.Tree self.old.nodes folder name.now flags result tree.old tree.new }
+        ensures asked { MakesAt T.Tree self.old.nodes folder name.now flags result tree.old tree.new }
+        ensures times { GoesOn self.old.times self.new.times }
+        ensures made { OnOk result (IsWritten self.old.times self.new.times folder) }
+        ensures fresh { IfOk result (λ a. IsWritten self.old.times self.new.times a.node) }
     {
         let (name, path) = self.read_place(folder, name)?;
         let number = self.open_path(tree, &path, flags)?;
-        self.mark_changed(folder);
-        let found = self.tell_of(tree, folder, &name, &path);
+        let found = self.tell_made(tree, folder, &name, &path);
         self.keep_open(tree, &found, number);
         found
     }
 
     // Notes that the node that was looked up is open once more, under this descriptor, which is closed where none was.
     fn keep_open<T: Tree>(&mut self, tree: &mut T, found: &Result<Attributes, Refusal>, number: u32)
-        ensures { Upkeep T.Tree tree.old tree.new }
+        ensures asked { Upkeep T.Tree tree.old tree.new }
+        ensures times { self.new.times ≡ self.old.times }
     {
         match found {
             Ok(attributes) => self.adopt(tree, attributes.node, number),
@@ -89,7 +99,8 @@ impl Tables {
 
     // Notes that a node is open once more, under this descriptor, which is not needed where it has one.
     fn adopt<T: Tree>(&mut self, tree: &mut T, id: u64, number: u32)
-        ensures { Upkeep T.Tree tree.old tree.new }
+        ensures asked { Upkeep T.Tree tree.old tree.new }
+        ensures times { self.new.times ≡ self.old.times }
     {
         if self.adds_open(id) {
             self.give_descriptor(id, number);
@@ -99,7 +110,9 @@ impl Tables {
     }
 
     // Notes that a node is open once more, and answers whether it has no descriptor.
-    fn adds_open(&mut self, id: u64) -> bool {
+    fn adds_open(&mut self, id: u64) -> bool
+        ensures { self.new.times ≡ self.old.times }
+    {
         match self.nodes.get_mut(id) {
             Some(node) => {
                 node.opens = node.opens.saturating_add(1);
@@ -110,21 +123,44 @@ impl Tables {
     }
 
     /// Makes an empty directory.
+    #[tactic(auto, using(crate::proofs::TimeLemmas::goes_same))]
     pub fn make_dir<T: Tree>(
         &mut self,
         tree: &mut T,
         folder: u64,
         name: &[u8],
     ) -> Result<Attributes, Refusal>
-        ensures { MakesDir T.Tree self.old.nodes folder name.now result tree.old tree.new }
+        ensures asked { MakesDir T.Tree self.old.nodes folder name.now result tree.old tree.new }
+        ensures times { GoesOn self.old.times self.new.times }
+        ensures made { OnOk result (IsWritten self.old.times self.new.times folder) }
+        ensures fresh { IfOk result (λ a. IsWritten self.old.times self.new.times a.node) }
     {
         let (name, path) = self.read_place(folder, name)?;
         make_dir_at(self.alloc, tree, &path)?;
-        self.mark_changed(folder);
-        self.tell_of(tree, folder, &name, &path)
+        self.tell_made(tree, folder, &name, &path)
+    }
+
+    // Returns the attributes of what was made with a name, at its path, and counts the lookup.
+    fn tell_made<T: Tree>(
+        &mut self,
+        tree: &mut T,
+        folder: u64,
+        name: &Name,
+        path: &[u8],
+    ) -> Result<Attributes, Refusal>
+        ensures asked { MayAsk T.Tree (call.Stat path.now) description_of (DescribesNode T.Tree path.now) result tree.old tree.new }
+        ensures times { GoesOn self.old.times self.new.times }
+        ensures made { OnOk result (IsWritten self.old.times self.new.times folder) }
+        ensures fresh { IfOk result (λ a. IsWritten self.old.times self.new.times a.node) }
+    {
+        self.times.write(folder);
+        let made = self.tell_of(tree, folder, name, path)?;
+        self.times.write(made.node);
+        Ok(made)
     }
 
     // Returns the attributes of what has a name, at its path, and counts the lookup.
+    #[tactic(auto, using(crate::proofs::TimeLemmas::met_same))]
     fn tell_of<T: Tree>(
         &mut self,
         tree: &mut T,
@@ -132,16 +168,18 @@ impl Tables {
         name: &Name,
         path: &[u8],
     ) -> Result<Attributes, Refusal>
-        ensures { MayAsk T.Tree (call.Stat path.now) description_of (DescribesNode T.Tree path.now) result tree.old tree.new }
+        ensures asked { MayAsk T.Tree (call.Stat path.now) description_of (DescribesNode T.Tree path.now) result tree.old tree.new }
+        ensures times { Meets self.old.times self.new.times }
     {
         let description = stat(self.alloc, tree, path)?;
         let id = self.find(tree, folder, name, path, description)?;
         self.note(id, description);
         self.count_lookup(id);
-        Ok(attributes_of(id, self.last_change(id), description))
+        Ok(attributes_of(id, description))
     }
 
     // The node of a name.
+    #[tactic(auto, using(crate::proofs::TimeLemmas::met_same))]
     fn find<T: Tree>(
         &mut self,
         tree: &mut T,
@@ -150,7 +188,8 @@ impl Tables {
         path: &[u8],
         description: Description,
     ) -> Result<u64, Refusal>
-        ensures { Finds T.Tree path.now result tree.old tree.new }
+        ensures asked { Finds T.Tree path.now result tree.old tree.new }
+        ensures times { Meets self.old.times self.new.times }
     {
         match self.nodes.child(folder, name.as_slice()) {
             Some(id) => Ok(id),
@@ -159,7 +198,9 @@ impl Tables {
     }
 
     // Counts one more lookup of a node that is known; the count stays at the greatest number once it is there.
-    pub(crate) fn count_lookup(&mut self, id: u64) {
+    pub(crate) fn count_lookup(&mut self, id: u64)
+        ensures { self.new.times ≡ self.old.times }
+    {
         if let Some(node) = self.nodes.get_mut(id) {
             node.lookups = node.lookups.saturating_add(1);
         }
@@ -167,6 +208,7 @@ impl Tables {
 
     // The node of a name that was not known. It may be one that is known by another name, or was: where the file has several, or some
     // node has names that are not known, the tree says which file it is.
+    #[tactic(auto, using(crate::proofs::TimeLemmas::met_same))]
     fn meet<T: Tree>(
         &mut self,
         tree: &mut T,
@@ -175,7 +217,8 @@ impl Tables {
         path: &[u8],
         description: Description,
     ) -> Result<u64, Refusal>
-        ensures { Finds T.Tree path.now result tree.old tree.new }
+        ensures asked { Finds T.Tree path.now result tree.old tree.new }
+        ensures times { Meets self.old.times self.new.times }
     {
         if !self.may_be_known(description) {
             return self.enter_node(folder, name, None, description);
@@ -193,6 +236,7 @@ impl Tables {
     }
 
     // Gives a name to the node of an inode, or to a new one.
+    #[tactic(auto, using(crate::proofs::TimeLemmas::met_same))]
     fn enter_node(
         &mut self,
         folder: u64,
@@ -200,7 +244,8 @@ impl Tables {
         inode: Option<u32>,
         description: Description,
     ) -> Result<u64, Refusal>
-        ensures { IfErr result (λ e. IsMemory e) }
+        ensures asked { IfErr result (λ e. IsMemory e) }
+        ensures times { Meets self.old.times self.new.times }
     {
         let id = match self.node_with_inode(inode) {
             Some(id) => id,
@@ -216,15 +261,20 @@ impl Tables {
         self.nodes.with_inode(inode?)
     }
 
-    fn add_node(
-        &mut self,
-        inode: Option<u32>,
-        description: Description,
-    ) -> Result<u64, AllocError> {
-        let mut node = Node::new(self.alloc, self.changes);
+    #[tactic(auto, using(crate::proofs::TimeLemmas::met_same))]
+    fn add_node(&mut self, inode: Option<u32>, description: Description) -> Result<u64, AllocError>
+        ensures { Meets self.old.times self.new.times }
+    {
+        let mut node = Node::new(self.alloc);
         node.inode = inode;
         note_in(&mut node, description);
-        self.nodes.add(node)
+        let id = self.nodes.add(node)?;
+        let begun = self.times.begin(id);
+        if begun.is_err() {
+            self.nodes.drop_unused(id);
+        }
+        begun?;
+        Ok(id)
     }
 }
 

@@ -20,8 +20,6 @@ pub struct Node {
     pub size: u64,
     /// How many names a file has, as the last reply had it.
     pub links: u32,
-    /// The change that was its last, of those of the mount.
-    pub changed: u64,
     /// The tree's number of a file that had several names when it was met.
     pub inode: Option<u32>,
     /// How many lookups of it the kernel has not forgotten.
@@ -37,13 +35,12 @@ pub struct Node {
 }
 
 impl Node {
-    /// A directory of which no name is known, as a change left it.
-    pub(crate) fn new(alloc: Global, changed: u64) -> Node {
+    /// A directory of which no name is known.
+    pub(crate) fn new(alloc: Global) -> Node {
         Node {
             is_dir: true,
             size: 0,
             links: 1,
-            changed,
             inode: None,
             lookups: 0,
             opens: 0,

@@ -13,8 +13,6 @@ pub const ROOT_NODE: u64 = 1;
 /// A node number, which is used again once the kernel has forgotten it.
 #[derive(Drop)]
 struct Slot {
-    /// How often the number was used before.
-    generation: u64,
     node: Option<Node>,
 }
 
@@ -31,8 +29,7 @@ impl Nodes {
     pub(crate) fn new(alloc: Global) -> Result<Nodes, AllocError> {
         let mut slots = Vec::new(alloc);
         slots.push(Slot {
-            generation: 0,
-            node: Some(Node::new(alloc, 1)),
+            node: Some(Node::new(alloc)),
         })?;
         Ok(Nodes {
             alloc,
@@ -53,14 +50,6 @@ impl Nodes {
     pub(crate) fn get_mut(&mut self, id: u64) -> Option<&mut Node> {
         let place = id.checked_sub(1)?;
         self.slots.get_mut(place as usize)?.node.as_mut()
-    }
-
-    /// How often a number was used before.
-    pub fn generation(&self, id: u64) -> u64 {
-        match self.slots.get(id.saturating_sub(1) as usize) {
-            Some(slot) => slot.generation,
-            None => 0,
-        }
     }
 
     /// The node that is known under a name of a directory.
@@ -96,16 +85,12 @@ impl Nodes {
             self.reuse(id, node);
             return Ok(id);
         }
-        self.slots.push(Slot {
-            generation: 0,
-            node: Some(node),
-        })?;
+        self.slots.push(Slot { node: Some(node) })?;
         Ok(self.slots.len() as u64)
     }
 
     fn reuse(&mut self, id: u64, node: Node) {
         if let Some(slot) = self.slots.get_mut(id.saturating_sub(1) as usize) {
-            slot.generation = slot.generation.saturating_add(1);
             slot.node = Some(node);
         }
     }
@@ -169,6 +154,13 @@ impl Nodes {
     pub(crate) fn forget_name(&mut self, folder: u64, name: &[u8], id: u64) {
         if let Some(node) = self.get_mut(id) {
             node.take_name(folder, name);
+        }
+    }
+
+    /// Notes that a node, if one is known, has a name no longer.
+    pub(crate) fn forget_known(&mut self, folder: u64, name: &[u8], id: Option<u64>) {
+        if let Some(id) = id {
+            self.forget_name(folder, name, id);
         }
     }
 

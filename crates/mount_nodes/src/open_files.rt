@@ -5,6 +5,8 @@ ghost use Rattle.mount_nodes.specs.Calls.{Answers, MayAsk, opened_of};
 ghost use Rattle.mount_nodes.specs.Files.{TakesDescriptor};
 ghost use Rattle.mount_nodes.specs.Upkeep.{Opens, Upkeep};
 
+use crate::descriptors::Descriptors;
+use crate::nodes::Nodes;
 use crate::paths::path_of;
 use crate::tables::Tables;
 use crate::tree::Tree;
@@ -24,7 +26,8 @@ pub(crate) const READ_WRITE: Flags = Flags {
 impl Tables {
     /// The descriptor of a node, opened first where it has none. `Stale` where it has neither a descriptor nor a name.
     pub(crate) fn take_descriptor<T: Tree>(&mut self, tree: &mut T, id: u64) -> Result<u32, Refusal>
-        ensures { TakesDescriptor T.Tree self.old.nodes id result tree.old tree.new }
+        ensures asked { TakesDescriptor T.Tree self.old.nodes id result tree.old tree.new }
+        ensures times { self.new.times ≡ self.old.times }
     {
         if let Some(number) = self.node(id)?.descriptor {
             return Ok(number);
@@ -36,7 +39,9 @@ impl Tables {
     }
 
     /// Notes that a node has a descriptor.
-    pub(crate) fn give_descriptor(&mut self, id: u64, number: u32) {
+    pub(crate) fn give_descriptor(&mut self, id: u64, number: u32)
+        ensures { self.new.times ≡ self.old.times }
+    {
         if let Some(node) = self.nodes.get_mut(id) {
             node.descriptor = Some(number);
             self.descriptors.set_owner(number, Some(id));
@@ -50,7 +55,8 @@ impl Tables {
         path: &[u8],
         flags: Flags,
     ) -> Result<u32, Refusal>
-        ensures { Opens T.Tree path.now flags ⊥ result tree.old tree.new }
+        ensures asked { Opens T.Tree path.now flags ⊥ result tree.old tree.new }
+        ensures times { self.new.times ≡ self.old.times }
     {
         for attempt in 0..MAX_DESCRIPTORS {
             match try_open(self.alloc, tree, path, flags) {
@@ -63,9 +69,10 @@ impl Tables {
 
     // Closes the descriptor of a node that is known by name.
     fn close_one<T: Tree>(&mut self, tree: &mut T) -> Result<(), Refusal>
-        ensures { MatchResult result (λ _. Upkeep T.Tree tree.old tree.new) (λ e. (e ≡ Refusal.Posix Errno.TooManyOpen) × (tree.new ≡ tree.old)) }
+        ensures asked { MatchResult result (λ _. Upkeep T.Tree tree.old tree.new) (λ e. (e ≡ Refusal.Posix Errno.TooManyOpen) × (tree.new ≡ tree.old)) }
+        ensures times { self.new.times ≡ self.old.times }
     {
-        match self.next_named() {
+        match next_named(&self.nodes, &mut self.descriptors) {
             Some(id) => {
                 self.close_descriptor(tree, id);
                 Ok(())
@@ -74,29 +81,10 @@ impl Tables {
         }
     }
 
-    // The next node in turn that has a descriptor and is known by name.
-    fn next_named(&mut self) -> Option<u64> {
-        for _ in 0..MAX_DESCRIPTORS {
-            let number = self.descriptors.take_turn();
-            if let Some(id) = self.named_owner(number) {
-                return Some(id);
-            }
-        }
-        None
-    }
-
-    // The node that has a descriptor, where it is known by name.
-    fn named_owner(&self, number: u32) -> Option<u64> {
-        let id = self.descriptors.owner(number)?;
-        if self.nodes.get(id)?.names.is_empty() {
-            return None;
-        }
-        Some(id)
-    }
-
     /// Closes the descriptor of a node, if it has one.
     pub(crate) fn close_descriptor<T: Tree>(&mut self, tree: &mut T, id: u64)
-        ensures { Upkeep T.Tree tree.old tree.new }
+        ensures asked { Upkeep T.Tree tree.old tree.new }
+        ensures times { self.new.times ≡ self.old.times }
     {
         if let Some(number) = self.drop_descriptor(id) {
             close_number(tree, number);
@@ -104,11 +92,33 @@ impl Tables {
     }
 
     /// Notes that a node has no descriptor any more, and answers the one that it had.
-    pub(crate) fn drop_descriptor(&mut self, id: u64) -> Option<u32> {
+    pub(crate) fn drop_descriptor(&mut self, id: u64) -> Option<u32>
+        ensures { self.new.times ≡ self.old.times }
+    {
         let number = self.nodes.get_mut(id)?.descriptor.take()?;
         self.descriptors.set_owner(number, None);
         Some(number)
     }
+}
+
+// The next node in turn that has a descriptor and is known by name.
+fn next_named(nodes: &Nodes, descriptors: &mut Descriptors) -> Option<u64> {
+    for _ in 0..MAX_DESCRIPTORS {
+        let number = descriptors.take_turn();
+        if let Some(id) = named_owner(nodes, descriptors, number) {
+            return Some(id);
+        }
+    }
+    None
+}
+
+// The node that has a descriptor, where it is known by name.
+fn named_owner(nodes: &Nodes, descriptors: &Descriptors, number: u32) -> Option<u64> {
+    let id = descriptors.owner(number)?;
+    if nodes.get(id)?.names.is_empty() {
+        return None;
+    }
+    Some(id)
 }
 
 /// Closes a descriptor that no node has. That it can't be closed answers no request.

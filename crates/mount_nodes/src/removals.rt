@@ -1,9 +1,10 @@
 // Names go, and move.
-ghost use Rattle.std.specs.Prelude.{◌≡◌, IfSome, OnErr};
+ghost use Rattle.std.specs.Prelude.{◌≡◌, IfSome, OnErr, OnOk};
 ghost use Rattle.posix_calls.specs.declared.call.Call.TheVariants as call;
 ghost use Rattle.mount_nodes.specs.Calls.{Answers, MayAsk, description_of, done_of};
 ghost use Rattle.mount_nodes.specs.Files.{Links, DescribesAgain, Unlinks};
 ghost use Rattle.mount_nodes.specs.Nodes.{RemovesDir};
+ghost use Rattle.mount_nodes.specs.Times.{IsNamed, IsWritten, Runs};
 ghost use Rattle.mount_nodes.specs.Upkeep.{IsLost, KeepsUp};
 
 use crate::attributes::{Attributes, attributes_of, stat};
@@ -18,8 +19,11 @@ use std::alloc::Global;
 
 impl Tables {
     /// Takes a name of a file away. One that is open stays usable: where this is its last name, its descriptor is taken before.
+    #[tactic(auto, using(crate::proofs::TimeLemmas::runs_same))]
     pub fn unlink<T: Tree>(&mut self, tree: &mut T, folder: u64, name: &[u8]) -> Result<(), Refusal>
-        ensures { Unlinks T.Tree self.old.nodes folder name.now result tree.old tree.new }
+        ensures asked { Unlinks T.Tree self.old.nodes folder name.now result tree.old tree.new }
+        ensures times { Runs self.old.times self.new.times }
+        ensures left { OnOk result (IsWritten self.old.times self.new.times folder) }
     {
         let path = path_below(self.alloc, &self.nodes, folder, name)?;
         let known = self.nodes.child(folder, name);
@@ -32,6 +36,7 @@ impl Tables {
     }
 
     /// Takes an empty directory away. Where it is refused, nothing changes.
+    #[tactic(auto, using(crate::proofs::TimeLemmas::runs_same))]
     pub fn remove_dir<T: Tree>(
         &mut self,
         tree: &mut T,
@@ -40,6 +45,8 @@ impl Tables {
     ) -> Result<(), Refusal>
         ensures removes { RemovesDir T.Tree self.old.nodes folder name.now result tree.old tree.new }
         ensures refused { OnErr result (self.new ≡ self.old) }
+        ensures times { Runs self.old.times self.new.times }
+        ensures left { OnOk result (IsWritten self.old.times self.new.times folder) }
     {
         let path = path_below(self.alloc, &self.nodes, folder, name)?;
         check_done(tree.call(Call::Rmdir {
@@ -55,7 +62,8 @@ impl Tables {
         tree: &mut T,
         id: Option<u64>,
     ) -> Result<(), Refusal>
-        ensures { KeepsUp T.Tree (IfSome id (λ id. IsLost self.old.nodes id)) result tree.old tree.new }
+        ensures asked { KeepsUp T.Tree (IfSome id (λ id. IsLost self.old.nodes id)) result tree.old tree.new }
+        ensures times { self.new.times ≡ self.old.times }
     {
         let Some(id) = id else {
             return Ok(());
@@ -69,7 +77,8 @@ impl Tables {
 
     // Takes the descriptor of the file at a path, and notes its size.
     fn hold_at<T: Tree>(&mut self, tree: &mut T, id: u64, path: &[u8]) -> Result<(), Refusal>
-        ensures { KeepsUp T.Tree ⊥ result tree.old tree.new }
+        ensures asked { KeepsUp T.Tree ⊥ result tree.old tree.new }
+        ensures times { self.new.times ≡ self.old.times }
     {
         self.note_size(tree, id, path)?;
         if self.has_descriptor(id) {
@@ -82,7 +91,8 @@ impl Tables {
 
     // Notes what the tree answers of the node at a path.
     fn note_size<T: Tree>(&mut self, tree: &mut T, id: u64, path: &[u8]) -> Result<(), Refusal>
-        ensures { KeepsUp T.Tree ⊥ result tree.old tree.new }
+        ensures asked { KeepsUp T.Tree ⊥ result tree.old tree.new }
+        ensures times { self.new.times ≡ self.old.times }
     {
         let description = stat(self.alloc, tree, path)?;
         self.note(id, description);
@@ -97,16 +107,30 @@ impl Tables {
     }
 
     // Notes that a name is gone.
-    fn leave(&mut self, folder: u64, name: &[u8]) {
-        self.mark_changed(folder);
-        if let Some(id) = self.nodes.leave(folder, name) {
+    fn leave(&mut self, folder: u64, name: &[u8])
+        ensures times { Runs self.old.times self.new.times }
+        ensures left { IsWritten self.old.times self.new.times folder }
+    {
+        self.times.write(folder);
+        let gone = self.nodes.leave(folder, name);
+        self.lose_known(gone);
+    }
+
+    /// Notes that a node, if one is known, has one name less.
+    #[tactic(auto, using(crate::proofs::TimeLemmas::runs_same))]
+    pub(crate) fn lose_known(&mut self, id: Option<u64>)
+        ensures { Runs self.old.times self.new.times }
+    {
+        if let Some(id) = id {
             self.lose_link(id);
         }
     }
 
     /// Notes that a node has one name less, and lets it go where nothing stands on it.
-    pub(crate) fn lose_link(&mut self, id: u64) {
-        self.mark_changed(id);
+    pub(crate) fn lose_link(&mut self, id: u64)
+        ensures { Runs self.old.times self.new.times }
+    {
+        self.times.touch(id);
         if let Some(node) = self.nodes.get_mut(id) {
             node.lose_link();
         }
@@ -114,6 +138,7 @@ impl Tables {
     }
 
     /// Gives a file a further name, and counts one more lookup of the node.
+    #[tactic(auto, using(crate::proofs::TimeLemmas::runs_same))]
     pub fn link<T: Tree>(
         &mut self,
         tree: &mut T,
@@ -121,7 +146,10 @@ impl Tables {
         folder: u64,
         bytes: &[u8],
     ) -> Result<Attributes, Refusal>
-        ensures { Links T.Tree self.old.nodes id folder bytes.now result tree.old tree.new }
+        ensures asked { Links T.Tree self.old.nodes id folder bytes.now result tree.old tree.new }
+        ensures times { Runs self.old.times self.new.times }
+        ensures entered { OnOk result (IsWritten self.old.times self.new.times folder) }
+        ensures named { OnOk result (IsNamed self.old.times self.new.times id) }
     {
         let old = path_of(self.alloc, &self.nodes, id)?;
         let (name, new) = self.read_place(folder, bytes)?;
@@ -129,8 +157,8 @@ impl Tables {
             return Err(Refusal::Posix(Errno::Exists));
         }
         self.enter_link(tree, (id, folder, &name), &old, &new)?;
-        self.mark_changed(folder);
-        self.mark_changed(id);
+        self.times.write(folder);
+        self.times.give_name(id);
         self.tell_again(tree, id, &old)
     }
 
@@ -142,7 +170,8 @@ impl Tables {
         old: &[u8],
         new: &[u8],
     ) -> Result<(), Refusal>
-        ensures { MayAsk T.Tree (call.Link old.now new.now) done_of Answers result tree.old tree.new }
+        ensures asked { MayAsk T.Tree (call.Link old.now new.now) done_of Answers result tree.old tree.new }
+        ensures times { self.new.times ≡ self.old.times }
     {
         let (id, folder, name) = names;
         self.nodes.enter(folder, name, id)?;
@@ -160,7 +189,8 @@ impl Tables {
         id: u64,
         path: &[u8],
     ) -> Result<Attributes, Refusal>
-        ensures { MayAsk T.Tree (call.Stat path.now) description_of (DescribesAgain id) result tree.old tree.new }
+        ensures asked { MayAsk T.Tree (call.Stat path.now) description_of (DescribesAgain id) result tree.old tree.new }
+        ensures times { self.new.times ≡ self.old.times }
     {
         let found = self.tell_known(tree, id, path);
         if found.is_ok() {
@@ -176,11 +206,12 @@ impl Tables {
         id: u64,
         path: &[u8],
     ) -> Result<Attributes, Refusal>
-        ensures { MayAsk T.Tree (call.Stat path.now) description_of (DescribesAgain id) result tree.old tree.new }
+        ensures asked { MayAsk T.Tree (call.Stat path.now) description_of (DescribesAgain id) result tree.old tree.new }
+        ensures times { self.new.times ≡ self.old.times }
     {
         let description = stat(self.alloc, tree, path)?;
         self.note(id, description);
-        Ok(attributes_of(id, self.last_change(id), description))
+        Ok(attributes_of(id, description))
     }
 }
 

@@ -5,6 +5,7 @@ ghost use Rattle.posix_calls.specs.declared.call.Call.TheVariants as call;
 ghost use Rattle.mount_nodes.specs.Calls.{Answers, Asks, IsUnasked, MayAsk, done_of};
 ghost use Rattle.mount_nodes.specs.Refusals.{IsMemory};
 ghost use Rattle.mount_nodes.specs.Renames.{IsUnmoved, Moves, Renames, absent_of};
+ghost use Rattle.mount_nodes.specs.Times.{Runs};
 ghost use Rattle.mount_nodes.specs.Upkeep.{Behind, IsLost};
 
 use crate::depth::check_depth;
@@ -32,6 +33,7 @@ pub struct Place<'a> {
 impl Tables {
     /// Moves a name, in place of what has the new one. With the flag `NO_REPLACE` what has it refuses the call; with `EXCHANGE` the two names
     /// change what they lead to; other flags are `Invalid`. `NameTooLong` where a path below a directory that moves would pass 1,024 bytes.
+    #[tactic(auto, using(crate::proofs::TimeLemmas::runs_same))]
     pub fn rename<T: Tree>(
         &mut self,
         tree: &mut T,
@@ -41,6 +43,7 @@ impl Tables {
     ) -> Result<(), Refusal>
         ensures renames { Renames T.Tree self.old.nodes (old.entry.folder, old.entry.name.now) (new.entry.folder, new.entry.name.now) flags result tree.old tree.new }
         ensures unexchanged { flags ≡ 2 → OnErr result (self.new ≡ self.old) }
+        ensures times { Runs self.old.times self.new.times }
     {
         let from = path_below(self.alloc, &self.nodes, old.folder, old.name)?;
         let to = path_below(self.alloc, &self.nodes, new.folder, new.name)?;
@@ -53,6 +56,7 @@ impl Tables {
     }
 
     // Moves what has a name to a path where nothing is.
+    #[tactic(auto, using(crate::proofs::TimeLemmas::runs_same))]
     fn move_beside<T: Tree>(
         &mut self,
         tree: &mut T,
@@ -60,13 +64,15 @@ impl Tables {
         from: Vec<u8>,
         to: Vec<u8>,
     ) -> Result<(), Refusal>
-        ensures { MayAsk T.Tree (call.Stat to.items) absent_of (λ _. Moves T.Tree self.old.nodes (places.entry.0.folder, places.entry.0.name.now) (places.entry.1.folder, places.entry.1.name.now) from.items to.items) result tree.old tree.new }
+        ensures asked { MayAsk T.Tree (call.Stat to.items) absent_of (λ _. Moves T.Tree self.old.nodes (places.entry.0.folder, places.entry.0.name.now) (places.entry.1.folder, places.entry.1.name.now) from.items to.items) result tree.old tree.new }
+        ensures times { Runs self.old.times self.new.times }
     {
         check_absent(self.alloc, tree, &to)?;
         self.move_path(tree, places, from, to)
     }
 
     // Moves what has a name, from a path to another.
+    #[tactic(auto, using(crate::proofs::TimeLemmas::runs_same))]
     fn move_path<T: Tree>(
         &mut self,
         tree: &mut T,
@@ -74,7 +80,8 @@ impl Tables {
         from: Vec<u8>,
         to: Vec<u8>,
     ) -> Result<(), Refusal>
-        ensures { Moves T.Tree self.old.nodes (places.entry.0.folder, places.entry.0.name.now) (places.entry.1.folder, places.entry.1.name.now) from.items to.items result tree.old tree.new }
+        ensures asked { Moves T.Tree self.old.nodes (places.entry.0.folder, places.entry.0.name.now) (places.entry.1.folder, places.entry.1.name.now) from.items to.items result tree.old tree.new }
+        ensures times { Runs self.old.times self.new.times }
     {
         check_depth(self.alloc, tree, &from, to.len())?;
         let from = Bytes::from_vec(from);
@@ -82,6 +89,7 @@ impl Tables {
         self.move_name(tree, places.0, places.1, (from, to))
     }
 
+    #[tactic(auto, using(crate::proofs::TimeLemmas::runs_same))]
     fn move_name<T: Tree>(
         &mut self,
         tree: &mut T,
@@ -89,7 +97,8 @@ impl Tables {
         new: Place<'_>,
         paths: (Bytes, Bytes),
     ) -> Result<(), Refusal>
-        ensures { Behind T.Tree (IsUnmoved self.old.nodes (old.entry.folder, old.entry.name.now) (new.entry.folder, new.entry.name.now)) (MayAsk T.Tree (call.Rename paths.0 paths.1) done_of Answers) result tree.old tree.new }
+        ensures asked { Behind T.Tree (IsUnmoved self.old.nodes (old.entry.folder, old.entry.name.now) (new.entry.folder, new.entry.name.now)) (MayAsk T.Tree (call.Rename paths.0 paths.1) done_of Answers) result tree.old tree.new }
+        ensures times { Runs self.old.times self.new.times }
     {
         let replaced = self.nodes.child(new.folder, new.name);
         match self.nodes.child(old.folder, old.name) {
@@ -99,6 +108,7 @@ impl Tables {
     }
 
     // Moves a name of a known node, over what has the new one, which may be the same node.
+    #[tactic(auto, using(crate::proofs::TimeLemmas::runs_same))]
     fn move_child<T: Tree>(
         &mut self,
         tree: &mut T,
@@ -107,7 +117,8 @@ impl Tables {
         replaced: Option<u64>,
         paths: (Bytes, Bytes),
     ) -> Result<(), Refusal>
-        ensures { Behind T.Tree ((is_name places.entry.1.name.now ≡ false) ⊎ IfSome replaced (λ id. IsLost self.old.nodes id)) (MayAsk T.Tree (call.Rename paths.0 paths.1) done_of Answers) result tree.old tree.new }
+        ensures asked { Behind T.Tree ((is_name places.entry.1.name.now ≡ false) ⊎ IfSome replaced (λ id. IsLost self.old.nodes id)) (MayAsk T.Tree (call.Rename paths.0 paths.1) done_of Answers) result tree.old tree.new }
+        ensures times { Runs self.old.times self.new.times }
     {
         if replaced == Some(moved) {
             return rename_paths(tree, paths);
@@ -117,6 +128,7 @@ impl Tables {
     }
 
     // Moves a name of a known node. It is entered before the call, so that no memory is wanted behind it.
+    #[tactic(auto, using(crate::proofs::TimeLemmas::runs_same))]
     fn move_known<T: Tree>(
         &mut self,
         tree: &mut T,
@@ -125,7 +137,8 @@ impl Tables {
         replaced: Option<u64>,
         paths: (Bytes, Bytes),
     ) -> Result<(), Refusal>
-        ensures { IsUnasked (is_name places.entry.1.name.now ≡ false) result tree.old tree.new ⊎ Asks T.Tree (call.Rename paths.0 paths.1) done_of Answers result tree.old tree.new }
+        ensures asked { IsUnasked (is_name places.entry.1.name.now ≡ false) result tree.old tree.new ⊎ Asks T.Tree (call.Rename paths.0 paths.1) done_of Answers result tree.old tree.new }
+        ensures times { Runs self.old.times self.new.times }
     {
         let name = self.enter_moved(moved, places.1)?;
         let end = rename_paths(tree, paths);
@@ -135,7 +148,8 @@ impl Tables {
 
     // Enters the new name of a node, and answers it.
     fn enter_moved(&mut self, moved: u64, new: Place<'_>) -> Result<Name, Refusal>
-        ensures { IfErr result (λ e. IsMemory e ⊎ (is_name new.entry.name.now ≡ false)) }
+        ensures asked { IfErr result (λ e. IsMemory e ⊎ (is_name new.entry.name.now ≡ false)) }
+        ensures times { self.new.times ≡ self.old.times }
     {
         let name = read_name(self.alloc, new.name)?;
         self.nodes.enter(new.folder, &name, moved)?;
@@ -143,6 +157,7 @@ impl Tables {
     }
 
     // Notes a move that was done, or takes back what was entered for one that was not.
+    #[tactic(auto, using(crate::proofs::TimeLemmas::runs_same))]
     fn settle_move(
         &mut self,
         moved: u64,
@@ -150,7 +165,9 @@ impl Tables {
         replaced: Option<u64>,
         name: Name,
         done: bool,
-    ) {
+    )
+        ensures { Runs self.old.times self.new.times }
+    {
         if done {
             self.end_move(moved, places.0, places.1, replaced);
         } else {
@@ -158,19 +175,21 @@ impl Tables {
         }
     }
 
-    fn end_move(&mut self, moved: u64, old: Place<'_>, new: Place<'_>, replaced: Option<u64>) {
+    fn end_move(&mut self, moved: u64, old: Place<'_>, new: Place<'_>, replaced: Option<u64>)
+        ensures { Runs self.old.times self.new.times }
+    {
         let _ = self.nodes.leave(old.folder, old.name);
-        if let Some(id) = replaced {
-            self.nodes.forget_name(new.folder, new.name, id);
-            self.lose_link(id);
-        }
-        self.mark_changed(old.folder);
-        self.mark_changed(new.folder);
-        self.mark_changed(moved);
+        self.nodes.forget_known(new.folder, new.name, replaced);
+        self.lose_known(replaced);
+        self.times.write(old.folder);
+        self.times.write(new.folder);
+        self.times.give_name(moved);
     }
 
     // What had the new name has it still. There is room for it, since the name of what was to move stands there.
-    fn undo_move(&mut self, moved: u64, new: Place<'_>, name: Name, replaced: Option<u64>) {
+    fn undo_move(&mut self, moved: u64, new: Place<'_>, name: Name, replaced: Option<u64>)
+        ensures { self.new.times ≡ self.old.times }
+    {
         self.nodes.forget_name(new.folder, new.name, moved);
         match replaced {
             Some(id) => {

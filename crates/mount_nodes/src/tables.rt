@@ -1,9 +1,11 @@
 ghost use Rattle.std.specs.Prelude.{◌≡◌, Some, None, IfOk, IfErr};
 ghost use Rattle.mount_nodes.specs.Paths.{node_at};
+ghost use Rattle.mount_nodes.specs.Times.{IsBegun};
 
 use crate::descriptors::Descriptors;
 use crate::node::Node;
 use crate::nodes::Nodes;
+use crate::times::Times;
 use fuse_wire::Refusal;
 use std::alloc::{AllocError, Global};
 
@@ -12,19 +14,20 @@ use std::alloc::{AllocError, Global};
 pub struct Tables {
     pub alloc: Global,
     pub nodes: Nodes,
+    pub times: Times,
     pub(crate) descriptors: Descriptors,
-    // how often something was changed, from 1 on
-    pub(crate) changes: u64,
 }
 
 impl Tables {
-    /// The root alone, with nothing open.
-    pub fn new(alloc: Global) -> Result<Tables, AllocError> {
+    /// The root alone, with nothing open, of a mount that begins at a time of day.
+    pub fn new(alloc: Global, now: u64) -> Result<Tables, AllocError>
+        ensures { IfOk result (λ tables. IsBegun tables.times now) }
+    {
         Ok(Tables {
             alloc,
             nodes: Nodes::new(alloc)?,
+            times: Times::new(alloc, now)?,
             descriptors: Descriptors::new(),
-            changes: 1,
         })
     }
 

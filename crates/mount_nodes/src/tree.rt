@@ -11,8 +11,10 @@ use posix_calls::{Call, Errno, Path, Reply};
 pub struct Usage {
     /// Units in all, of 4,096 bytes.
     pub units: u64,
-    /// Units that nothing has and nobody was given.
+    /// Units that nothing has.
     pub free: u64,
+    /// Inode numbers that no file or directory has.
+    pub free_nodes: u64,
 }
 
 /// A file tree that answers the calls of the mount's client, one after the other. Nobody else changes it.

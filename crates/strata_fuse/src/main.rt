@@ -5,6 +5,7 @@
 mod mount_tree;
 mod options;
 mod run;
+mod time_of_day;
 
 use crate::run::run_fuse;
 use program_runs::run_program;

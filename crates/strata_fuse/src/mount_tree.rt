@@ -114,6 +114,24 @@ impl MountTree {
         }
     }
 
+    // How many numbers no node of the shared area has.
+    fn count_free_nodes(&mut self) -> u64 {
+        let mut count = 0;
+        for number in 0..MAX_INODE {
+            if self.is_free(number + 1) {
+                count += 1;
+            }
+        }
+        count
+    }
+
+    fn is_free(&mut self, inode: u32) -> bool {
+        match self.world.look(inode) {
+            Ok(found) => found.node.is_none(),
+            Err(_) => false,
+        }
+    }
+
     // What a directory of the shared area has under a name.
     fn child(&mut self, folder: u32, name: &[u8]) -> Result<u32, Errno> {
         match self.world.look(folder) {
@@ -149,16 +167,24 @@ impl Tree for MountTree {
         Ok(inode)
     }
 
+    // What was given to the client and waits for no digest is free.
     fn usage(&mut self) -> Usage {
+        let waiting = self.free_files().is_err();
+        let free_nodes = self.count_free_nodes();
         match self.world.system().kernel().book() {
             Ok(figures) => Usage {
                 units: figures.capacity,
                 free: figures
                     .capacity
                     .saturating_sub(figures.charge)
-                    .saturating_sub(figures.out),
+                    .saturating_sub(if waiting { figures.out } else { 0 }),
+                free_nodes,
             },
-            Err(_) => Usage { units: 0, free: 0 },
+            Err(_) => Usage {
+                units: 0,
+                free: 0,
+                free_nodes: 0,
+            },
         }
     }
 

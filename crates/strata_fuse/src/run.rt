@@ -1,6 +1,7 @@
 // A run of `strata_fuse`.
 use crate::mount_tree::MountTree;
 use crate::options::{Options, read_options};
+use crate::time_of_day::TimeOfDay;
 use fuse_server::{StreamError, serve_stream};
 use program_runs::tell;
 use std::io::{Read, Write};
@@ -20,7 +21,7 @@ pub fn run_fuse<'a, R: Read, O: Write, E: Write>(
 ) -> u8 {
     match read_options(rt.alloc(), words) {
         Ok(options) => match open_tree(rt, &options) {
-            Ok(tree) => end_status(serve(rt, tree, input, output), err),
+            Ok(tree) => end_status(serve(rt, &options, tree, input, output), err),
             Err(error) => tell_unusable(&error, options.disk, err),
         },
         Err(error) => tell(error, output, err),
@@ -34,12 +35,17 @@ fn open_tree(rt: &HostRuntime, options: &Options<'_>) -> Result<MountTree, World
 
 fn serve<R: Read, O: Write>(
     rt: &HostRuntime,
+    options: &Options<'_>,
     tree: MountTree,
     input: &mut R,
     output: &mut O,
 ) -> Result<(), StreamError> {
     let mut tree = tree;
-    serve_stream(rt.alloc(), &mut tree, input, output)
+    let clock = TimeOfDay {
+        rt,
+        still: options.clock,
+    };
+    serve_stream(rt.alloc(), &clock, options.owner, &mut tree, input, output)
 }
 
 fn end_status<E: Write>(end: Result<(), StreamError>, err: &mut E) -> u8 {

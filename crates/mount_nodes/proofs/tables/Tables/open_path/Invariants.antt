@@ -8,4 +8,5 @@ abbrev pub invariant-loop-attempt : goal.invariant-loop-attempt
 invariant-loop-attempt g l = record {
   kept : Upkeep g.T.Tree l.fn.tree l.tree;
   refused : (l.attempt ≡ 0) ⊎ IsRefusedIn g.T.Tree too_many l.fn.tree l.tree;
+  times : l.self.times ≡ l.fn.self.times;
 }

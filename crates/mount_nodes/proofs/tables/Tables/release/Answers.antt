@@ -9,4 +9,4 @@ returns-then-opens-gt1-clause-releases g c =
 
 pub returns-clause-releases : goal.returns-clause-releases
 returns-clause-releases g c =
-    inr (c.in_ok-node.node.now, c.in_ok-node.ensures.known, refl, subst (λ d. Closes g.T.Tree d c.args.tree.now c.close_last.new.tree) (sym (closed_last c.in_ok-node.node.now c.if-opens-gt1.false)) c.close_last.ensures)
+    inr (c.in_ok-node.node.now, c.in_ok-node.ensures.known, refl, subst (λ d. Closes g.T.Tree d c.args.tree.now c.close_last.new.tree) (sym (closed_last c.in_ok-node.node.now c.if-opens-gt1.false)) c.close_last.ensures.asked)
