@@ -1,1 +1,2 @@
+pub mod MountCalls
 pub mod MountOptions

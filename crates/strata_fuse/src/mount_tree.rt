@@ -1,4 +1,11 @@
 // A world answers the calls of one client, as the tree of a mount.
+ghost use Rattle.std.specs.Prelude.{◌≡◌, true, IfSome};
+ghost use Rattle.posix_calls.specs.declared.errno.Errno.TheVariants.{NoSpace};
+ghost use Rattle.posix_calls.specs.declared.call.Reply.TheVariants.{Failed};
+ghost use Rattle.call_driver.specs.EventOwner.{IsDigesting};
+ghost use Rattle.call_driver.specs.Runs.{Leads};
+ghost use Rattle.strata_fuse.specs.MountCalls.{IsAsked, IsAskedBehind, IsFreeing, IsOnlyLookedAt};
+
 use call_driver::in_event_steps::{Event, Outcome, Refusal};
 use call_driver::in_interleavings::World;
 use call_driver::in_kernel_fs::KernelError;
@@ -7,7 +14,7 @@ use call_driver::{CallResult, Events, clear_client, digest_all, serve_call};
 use fuse_server::in_mount_nodes::{Tree, Usage};
 use posix_calls::{Bytes, Call, Errno, MAX_INODE, Path, ROOT, Reply};
 use std::alloc::Global;
-use tier_device::Tier;
+use tier_device::{Media, Tier};
 use world_files::in_host_media::FileMedia;
 
 /// The most records of the client that may wait for their digest between two requests.
@@ -39,7 +46,10 @@ impl MountTree {
     }
 
     // Serves a call once.
-    fn serve(&mut self, call: Call) -> Reply {
+    fn serve(&mut self, call: Call) -> Reply
+        ensures asked { IsAsked ⟦<World<FileMedia> as Events>⟧ self.old.client call result self.old.world self.new.world }
+        ensures client { self.new.client ≡ self.old.client }
+    {
         match serve_call(&mut self.world, self.client, call, true) {
             CallResult::Reply(reply) => reply,
             CallResult::NoMemory => failure(Errno::NoMemory),
@@ -48,7 +58,11 @@ impl MountTree {
     }
 
     // Serves a call that was refused for want of space once more, where files went that stood on it no longer.
-    fn serve_again(&mut self, call: Call, refusal: Reply) -> Reply {
+    fn serve_again(&mut self, call: Call, refusal: Reply) -> Reply
+        requires refused { refusal ≡ Failed NoSpace }
+        ensures asked { IsAskedBehind ⟦<World<FileMedia> as Events>⟧ self.old.client call result self.old.world self.new.world }
+        ensures client { self.new.client ≡ self.old.client }
+    {
         match self.free_files() {
             Ok(()) => self.serve(call),
             Err(_) => refusal,
@@ -56,7 +70,10 @@ impl MountTree {
     }
 
     // Digests what the client logged, so that the shared area has all of the tree.
-    fn digest(&mut self) -> Result<(), Errno> {
+    fn digest(&mut self) -> Result<(), Errno>
+        ensures events { Leads ⟦<World<FileMedia> as Events>⟧.plays (IsDigesting self.old.client) self.old.world self.new.world }
+        ensures client { self.new.client ≡ self.old.client }
+    {
         match digest_all(&mut self.world, self.client) {
             Ok(()) => Ok(()),
             Err(refusal) => Err(errno_of(refusal)),
@@ -64,7 +81,10 @@ impl MountTree {
     }
 
     // Digests what the client logged, and lets each file go that is closed and has no name.
-    fn free_files(&mut self) -> Result<(), Errno> {
+    fn free_files(&mut self) -> Result<(), Errno>
+        ensures events { Leads ⟦<World<FileMedia> as Events>⟧.plays (IsFreeing self.old.client) self.old.world self.new.world }
+        ensures client { self.new.client ≡ self.old.client }
+    {
         self.digest()?;
         for number in 0..MAX_INODE {
             let event = Event::Unpin {
@@ -115,7 +135,10 @@ impl MountTree {
     }
 
     // How many numbers no node of the shared area has.
-    fn count_free_nodes(&mut self) -> u64 {
+    fn count_free_nodes(&mut self) -> u64
+        ensures looked { IsOnlyLookedAt ⟦<FileMedia as Media>⟧ self.old.world self.new.world }
+        ensures client { self.new.client ≡ self.old.client }
+    {
         let mut count = 0;
         for number in 0..MAX_INODE {
             if self.is_free(number + 1) {
@@ -125,7 +148,10 @@ impl MountTree {
         count
     }
 
-    fn is_free(&mut self, inode: u32) -> bool {
+    fn is_free(&mut self, inode: u32) -> bool
+        ensures looked { IsOnlyLookedAt ⟦<FileMedia as Media>⟧ self.old.world self.new.world }
+        ensures client { self.new.client ≡ self.old.client }
+    {
         match self.world.look(inode) {
             Ok(found) => found.node.is_none(),
             Err(_) => false,
@@ -133,7 +159,10 @@ impl MountTree {
     }
 
     // What a directory of the shared area has under a name.
-    fn child(&mut self, folder: u32, name: &[u8]) -> Result<u32, Errno> {
+    fn child(&mut self, folder: u32, name: &[u8]) -> Result<u32, Errno>
+        ensures looked { IsOnlyLookedAt ⟦<FileMedia as Media>⟧ self.old.world self.new.world }
+        ensures client { self.new.client ≡ self.old.client }
+    {
         match self.world.look(folder) {
             Ok(found) => child_of(found.node, name),
             Err(KernelError::Refused(_)) => Err(Errno::NoMemory),
@@ -143,11 +172,14 @@ impl MountTree {
 }
 
 impl Tree for MountTree {
-    ghost asks = { λ _ _ _ _. Unit {0} };
+    ghost use Rattle.call_driver.specs.EventOwner.{IsDigesting};
+    ghost use Rattle.strata_fuse.specs.MountCalls.{IsAskedOfWorld, IsFreeing, IsLookedAtBehind};
 
-    ghost finds = { λ _ _ _ _. Unit {0} };
+    ghost asks = { λ t call reply u. IsAskedOfWorld ⟦<World<FileMedia> as Events>⟧ t.client call reply t.world u.world × (u.client ≡ t.client) };
 
-    ghost measures = { λ _ _ _. Unit {0} };
+    ghost finds = { λ t _ _ u. IsLookedAtBehind ⟦<FileMedia as Media>⟧ ⟦<World<FileMedia> as Events>⟧ (IsDigesting t.client) t.world u.world × (u.client ≡ t.client) };
+
+    ghost measures = { λ t _ u. IsLookedAtBehind ⟦<FileMedia as Media>⟧ ⟦<World<FileMedia> as Events>⟧ (IsFreeing t.client) t.world u.world × (u.client ≡ t.client) };
 
     fn call(&mut self, call: Call) -> Reply {
         let again = copy_call(self.alloc, &call);
@@ -207,11 +239,15 @@ fn child_of(node: Option<NodeSummary>, name: &[u8]) -> Result<u32, Errno> {
     }
 }
 
-fn failure(errno: Errno) -> Reply {
+fn failure(errno: Errno) -> Reply
+    ensures { result ≡ Failed errno }
+{
     Reply::Failed { errno }
 }
 
-fn is_no_space(reply: &Reply) -> bool {
+fn is_no_space(reply: &Reply) -> bool
+    ensures { result ≡ true → reply.now ≡ Failed NoSpace }
+{
     match reply {
         Reply::Failed { errno } => *errno == Errno::NoSpace,
         _ => false,
@@ -226,7 +262,9 @@ fn errno_of(refusal: Refusal) -> Errno {
 }
 
 // A copy of a call that takes a number for a node, or units; none where memory is wanting for it.
-fn copy_call(alloc: Global, call: &Call) -> Option<Call> {
+fn copy_call(alloc: Global, call: &Call) -> Option<Call>
+    ensures { IfSome result (λ c. c ≡ call.now) }
+{
     match call {
         Call::Open { path, flags } if flags.create => Some(Call::Open {
             path: copy_path(alloc, path)?,
@@ -260,6 +298,8 @@ fn copy_call(alloc: Global, call: &Call) -> Option<Call> {
     }
 }
 
-fn copy_path(alloc: Global, path: &Bytes) -> Option<Bytes> {
+fn copy_path(alloc: Global, path: &Bytes) -> Option<Bytes>
+    ensures { IfSome result (λ p. p ≡ path.now) }
+{
     Bytes::copy_of(alloc, path.as_slice()).ok()
 }
