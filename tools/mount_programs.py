@@ -72,8 +72,9 @@ def try_rsync(folder, disk):
         copy()
 
     def later():
-        copy()
+        copied = copy()
         check(text_of(f"{backup}/book") == "balance 999", "a backup keeps old bytes")
+        check("other" not in copied, "a backup copies what has not changed")
 
     is_told_apart(folder, disk, first, lambda: put(f"{folder}/book", "balance 999"), later)
     with Mount(folder, disk):
@@ -88,6 +89,7 @@ def try_rsync(folder, disk):
 
 
 def try_make(folder, disk):
+    """An output is made anew where its source was changed behind it: also where an orderly end of the mount lies between."""
     need("make")
 
     def make():
@@ -103,6 +105,7 @@ def try_make(folder, disk):
     with Mount(folder, disk):
         check("up to date" in make(), "make makes what is up to date")
         put(f"{folder}/data", "balance 100")
+    with Mount(folder, disk):
         make()
         check(text_of(f"{folder}/out") == "balance 100", "make keeps an output of another mount")
         check("up to date" in make(), "make makes what it has just made")
@@ -181,15 +184,59 @@ def try_times(folder, disk):
         check((found.st_atime_ns, found.st_mtime_ns) == (5 * 10**9, 7 * 10**9 + 11), "a time that was set is not told")
         os.utime(f"{folder}/file")
         check(times_of(f"{folder}/file")[0] > seen[-1], "touch has no effect")
-        put(f"{folder}/other", "x")
-        ended = time.time_ns()
-    time.sleep(0.01)
+
+
+def kill_mount(folder, disk):
+    """A mount begins and is killed, and so is its server."""
+    with contextlib.ExitStack() as stack:
+        mount = Mount(folder, disk)
+        stack.enter_context(mount)
+        mount.process.kill()
+        mount.process.wait(20)
+        stack.pop_all()
+
+
+def try_kept_times(folder, disk):
+    """The times of bytes are kept over an orderly end of the mount, and told as those of its beginning behind any other."""
+    def modified():
+        return {path: os.stat(f"{folder}/{path}").st_mtime_ns for path in (".", "d", "d/file", "d/a\nb", "set", "\u00fc")}
+
     with Mount(folder, disk):
-        check(min(times_of(f"{folder}/file")) > ended, "a time comes again behind the next mount")
-        check(times_of(f"{folder}/file") == times_of(f"{folder}/other"), "what was not changed is not told as changed at the mount's beginning")
-        first = times_of(f"{folder}/file")
-        os.rename(f"{folder}/other", f"{folder}/file")
-        check(min(times_of(f"{folder}/file")) > first[0], "another file has a name at the same time")
+        os.mkdir(f"{folder}/d")
+        for name in ("d/file", "d/a\nb", "set", "\u00fc"):
+            put(f"{folder}/{name}", name)
+        os.utime(f"{folder}/set", ns=(5 * 10**9, 7 * 10**9 + 11))
+        told = modified()
+    ended = time.time_ns()
+    check(os.stat(f"{disk}.times").st_mode == 0o100600, "the times of a mount are for others to read")
+    time.sleep(0.01)
+    with Mount(folder, disk, first=["--read-only"]):
+        check(modified() == told, "a time is not kept over an orderly end")
+        check(os.stat(f"{folder}/set").st_ctime_ns > ended, "a time of the last change of all comes again")
+        check(not os.path.exists(f"{disk}.times"), "times stay beside a world that may change")
+        check(os.statvfs(folder).f_flag & os.ST_RDONLY, "what is mounted for reading alone may be changed")
+    with Mount(folder, disk):
+        check(modified() == told, "a time is not kept over a mount for reading alone")
+        put(f"{folder}/d/file", "other")
+        told = {**told, "d/file": os.stat(f"{folder}/d/file").st_mtime_ns}
+    with Mount(folder, disk):
+        check(modified() == told, "a time of a change is not kept")
+    check_begun(folder, disk, modified, lambda: kill_mount(folder, disk))
+    check_begun(folder, disk, modified, lambda: os.utime(disk))
+
+
+def check_begun(folder, disk, modified, between):
+    """What was done between two mounts has all times told as those of the beginning."""
+    with Mount(folder, disk):
+        os.utime(f"{folder}/set", ns=(5 * 10**9, 7 * 10**9 + 11))
+    between()
+    began = time.time_ns()
+    with Mount(folder, disk):
+        found = set(modified().values())
+        check(len(found) == 1 and min(found) >= began, "times come again where they may be wrong")
+        os.rename(f"{folder}/d/a\nb", f"{folder}/d/file")
+        check(os.stat(f"{folder}/d/file").st_mtime_ns > min(found), "another file has a name at the same time")
+        put(f"{folder}/d/a\nb", "again")
 
 
 def as_user(name):
@@ -320,6 +367,7 @@ def try_postgres(folder, disk):
 
 # Those of a second or two each.
 TESTS = [
-    ("times", try_times), ("rsync", try_rsync), ("make", try_make), ("python", try_python), ("zip", try_zip), ("delivery", try_delivery),
+    ("times", try_times), ("times that are kept", try_kept_times), ("rsync", try_rsync), ("make", try_make), ("python", try_python),
+    ("zip", try_zip), ("delivery", try_delivery),
     ("owners", try_owners), ("free space", try_free_space), ("a mount over its own world", try_below_itself), ("postgres", try_postgres),
 ]

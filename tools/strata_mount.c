@@ -3,6 +3,8 @@
 // The kernel's device is the server's input and output: no message is copied on its way. This process only waits, and keeps no end of the
 // device, so that it is closed as soon as the server has gone, whichever way.
 #define _GNU_SOURCE
+#include "mount_times.h"
+
 #include <errno.h>
 #include <fcntl.h>
 #include <libgen.h>
@@ -56,12 +58,26 @@ static void on_signal(int number) {
     errno = before;
 }
 
+static unsigned long flags_of(struct how how) {
+    return MS_NOSUID | MS_NODEV | (how.read_only ? MS_RDONLY : 0) | (how.no_exec ? MS_NOEXEC : 0);
+}
+
 // The modes that the server tells are held against others, where others are let in.
 static int mount_device(int device, const char *source, struct how how) {
     char options[128];
     snprintf(options, sizeof options, "fd=%d,rootmode=40000,user_id=%u,group_id=%u%s", device, getuid(), getgid(),
              how.for_others ? ",allow_other,default_permissions" : "");
-    return mount(source, folder, "fuse.strata", MS_NOSUID | MS_NODEV | (how.read_only ? MS_RDONLY : 0) | (how.no_exec ? MS_NOEXEC : 0), options);
+    return mount(source, folder, "fuse.strata", flags_of(how), options);
+}
+
+// Sets the times that were told as an earlier mount ended. One in which nothing may be changed lets them be set all the same.
+static int restore_times(struct times times, struct how how) {
+    struct how writable = how;
+    writable.read_only = 0;
+    if (times.texts == NULL) return 1;
+    if (how.read_only && mount(NULL, folder, NULL, MS_REMOUNT | flags_of(writable), NULL) != 0) return 1;
+    set_times(folder, times);
+    return !how.read_only || mount(NULL, folder, NULL, MS_REMOUNT | flags_of(how), NULL) == 0;
 }
 
 // The word behind the option --disk.
@@ -183,17 +199,32 @@ static void let_go(int told) {
     close(told);
 }
 
+static void tell_mounted(int told) {
+    if (told >= 0) {
+        let_go(told);
+        return;
+    }
+    printf("%s: mounted\n", folder);
+    fflush(stdout);
+}
+
+// Waits until the mount has ended or the server has. Where the mount ended in order, its times are kept beside the world's file.
+static void wait_for_end(pid_t server, const char *path, int told) {
+    int tree = hold_tree(folder);
+    tell_mounted(told);
+    if (tree < 0) return;
+    if (wait_for_unmount(tree, server) && path != NULL) keep_times(tree, path);
+    close(tree);
+}
+
 // Waits for the server's end. The first call within the mount waits for the server too; then the mount is told of. By the end another one may
 // have mounted the folder anew, and that mount stays.
-static int wait_for_server(pid_t server, pid_t teller, int told) {
+static int wait_for_server(pid_t server, pid_t teller, struct how how, const char *path, struct times times, int told) {
     struct stat own = {0}, found;
     int stands = stat(folder, &own) == 0;
     end_process(teller);
-    if (stands && told >= 0) let_go(told);
-    else if (stands) {
-        printf("%s: mounted\n", folder);
-        fflush(stdout);
-    }
+    if (stands && !restore_times(times, how)) end_mount();
+    else if (stands) wait_for_end(server, path, told);
     int status = 0;
     while (waitpid(server, &status, 0) < 0 && errno == EINTR) {}
     if (stat(folder, &found) != 0 || found.st_dev == own.st_dev) umount2(folder, MNT_DETACH);
@@ -218,6 +249,7 @@ static int serve(char **words, struct how how, int told) {
     sigaction(SIGINT, &action, NULL);
     sigaction(SIGHUP, &action, NULL);
     int err = told >= 0 ? log_errors(told) : -1;
+    struct times times = is_found ? take_times(path) : (struct times){NULL, 0};
     pid_t self = getpid(), server = fork();
     if (server < 0) {
         umount2(folder, MNT_DETACH);
@@ -226,7 +258,7 @@ static int serve(char **words, struct how how, int told) {
     if (server == 0) run_server(device, err, self, words);
     close(device);
     if (err >= 0) close(err);
-    return wait_for_server(server, disk != NULL ? tell_progress(server, disk) : 0, told);
+    return wait_for_server(server, disk != NULL ? tell_progress(server, disk) : 0, how, is_found ? path : NULL, times, told);
 }
 
 // Has another process serve, and waits until the mount answers, or for the status with which that process ended before.
