@@ -6,11 +6,21 @@ use Rattle.host_media.specs.declared.disk_file.DiskFile.{DiskFile}
 use Rattle.host_media.specs.declared.sizes.Sizes.{Sizes}
 use Rattle.host_media.specs.declared.file.FileMedia.{FileMedia}
 use Rattle.host_media.specs.File.{file_seen}
+use Rattle.host_media.specs.FileBytes.{Told}
+use Rattle.host_media.specs.FileRange.{range_changes, range_told}
 use Rattle.host_media.specs.Sizes.{byte_count}
 
 -- how many bytes it has
 abbrev pub disk_len : DiskFile → ℕ
 disk_len disk = disk.len
+
+-- what is known of its bytes
+abbrev pub disk_told : DiskFile → Told
+disk_told disk = range_told disk.range
+
+-- how many writes gave other bytes than were known there
+abbrev pub disk_changes : DiskFile → ℕ
+disk_changes disk = range_changes disk.range
 
 -- whether it was made, so that all its bytes are zero
 abbrev pub is_blank : DiskFile → Bool

@@ -5,13 +5,24 @@ use Rattle.tier_device.specs.DeviceCall.{DeviceCall}
 use Rattle.tier_device.specs.AfterStop.{AtRest}
 use Rattle.tier_device.specs.Rows.{row}
 use Rattle.host_media.specs.declared.file.FileMedia.{FileMedia}
+use Rattle.host_media.specs.FileBytes.{Told, known}
+use Rattle.host_media.specs.FileRange.{range_begin, range_changes, range_told}
+use Rattle.host_media.specs.Images.{content_bytes}
 use Rattle.host_media.specs.TierHistory.{LeftAt, LeftNow}
 use Rattle.host_media.specs.PendingTiers.{pending_in}
 use Rattle.host_media.specs.HistoryLaws.{history_seen_now, history_sized}
 
 -- where in its file its bytes begin
 abbrev pub file_begin : FileMedia → ℕ
-file_begin m = m.inner.host.begin
+file_begin m = range_begin m.inner.host.range
+
+-- what is known of the bytes of its range of the file
+abbrev pub file_told : FileMedia → Told
+file_told m = range_told m.inner.host.range
+
+-- how many writes of it gave other bytes than were known there, those of what it was parted off from before that included
+abbrev pub file_changes : FileMedia → ℕ
+file_changes m = range_changes m.inner.host.range
 
 -- what a read gives of a tier, until a call has failed
 abbrev pub file_seen : FileMedia → Tier → List ℕ
@@ -60,6 +71,8 @@ pub record IsOpened (m : FileMedia) : Type 0 where
   pub faults : failures m ≡ 0
   pub works : file_failed m ≡ false
   pub synced : IsSynced m
+  -- each tier in its own place of the file
+  pub stands : file_told m ≡ known (content_bytes (file_seen m))
 
 pub file_seen_now : (m : FileMedia) (t : Tier) → file_left m (file_moment m) t (file_seen m t)
 file_seen_now m t = history_seen_now m.inner.past.history (row m.inner.tiers) m.inner.shows t

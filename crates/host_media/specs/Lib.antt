@@ -7,6 +7,9 @@ pub mod Place
 pub mod PendingTiers
 pub mod Cover
 pub mod Mirror
+pub mod FileBytes
+pub mod Tellings
+pub mod FileRange
 pub mod File
 pub mod Sizes
 pub mod DiskFile

@@ -1,24 +1,25 @@
 // A file in which media lie one behind the other.
-ghost use Rattle.std.specs.Prelude.{◌≡◌, ◌≢◌, ◌≤◌, ◌<◌, ◌+◌, ◌^◌, [], ◌∷◌, ◌++◌, All, map, sum_by, length, replicate, true, false, IfOk, OnOk, IsErrOf};
-ghost use Rattle.tier_device.specs.declared.media.Tier.{Tier};
-ghost use Rattle.tier_device.specs.declared.media.Tier.TheVariants.{Fast, Block, Slow};
-ghost use Rattle.tier_device.specs.Rows.{row};
+ghost use Rattle.std.specs.Prelude.{◌≡◌, ◌≢◌, ◌≤◌, ◌<◌, ◌+◌, ◌^◌, All, map, sum_by, length, replicate, true, false, IfOk, OnErr, OnOk, IsErrOf};
 ghost use Rattle.host_media.specs.declared.error.FileProblem.TheVariants.{Length, TooLarge};
-ghost use Rattle.host_media.specs.File.{file_begin, IsOpened};
+ghost use Rattle.host_media.specs.File.{file_begin, file_changes, IsOpened};
+ghost use Rattle.host_media.specs.FileBytes.{known, unknown, with_told};
+ghost use Rattle.host_media.specs.FileRange.{range_begin, range_told, read_begin, read_told};
 ghost use Rattle.host_media.specs.Sizes.{byte_count};
 
 use crate::error::{FileError, FileProblem};
 use crate::file::FileMedia;
-use crate::file_bytes::{fill_file, read_tiers, write_tiers};
+use crate::file_bytes::fill_file;
+use crate::file_parts::{medium, push_media, sync_read};
+use crate::file_range::FileRange;
+use crate::known_range::KnownRange;
 use crate::locked_file::{make_locked, open_locked, sync_folder};
 use crate::shared_file::SharedFile;
-use crate::sizes::{MAX_BYTES, Sizes, zeros};
+use crate::sizes::{MAX_BYTES, Sizes};
 use std::alloc::{AllocError, Global};
 use std::fs::{self, File, Files};
 use std::io;
-use std::os::unix::fs::FileExt;
 use std::sync::Arc;
-use tier_device::{Tiers, lies_within};
+use tier_device::lies_within;
 
 /// A file in which media lie one behind the other, without a gap. It is open and locked: no other process has it, as long as it
 /// or one of its media is there.
@@ -27,14 +28,17 @@ use tier_device::{Tiers, lies_within};
 /// whichever medium asked for it, no other one succeeds, until the file is opened again.
 #[derive(Drop)]
 pub struct DiskFile {
-    pub(crate) shared: Arc<SharedFile>,
+    pub(crate) range: FileRange,
     len: usize,
     is_blank: bool,
     ghost short: { len < 2 ^ 63 },
+    ghost whole: { range_begin range ≡ 0 },
+    ghost long: { length (range_told range) ≡ len },
+    ghost blank: { is_blank ≡ true → range_told range ≡ known (replicate len 0) },
 }
 
 impl DiskFile {
-    ghost use Rattle.host_media.specs.DiskFile.{disk_len, is_blank, file_sizes, places_from, IsZero};
+    ghost use Rattle.host_media.specs.DiskFile.{disk_changes, disk_len, disk_told, is_blank, file_sizes, places_from, IsZero};
 
     /// Opens a file, and has the system keep all that it was given of it, so that nothing is pending.
     ///
@@ -46,6 +50,7 @@ impl DiskFile {
         path: &'a str,
     ) -> Result<DiskFile, FileError<'a>>
         ensures bytes { IfOk result (λ disk. is_blank disk ≡ false) }
+        ensures nothing { IfOk result (λ disk. disk_told disk ≡ unknown (disk_len disk)) }
     {
         match open_disk(files, alloc, path) {
             Ok(disk) => Ok(disk),
@@ -65,6 +70,7 @@ impl DiskFile {
     ) -> Result<DiskFile, FileError<'a>>
         ensures len { IfOk result (λ disk. disk_len disk ≡ len) }
         ensures blank { IfOk result (λ disk. is_blank disk ≡ true) }
+        ensures zeros { IfOk result (λ disk. disk_told disk ≡ known (replicate len 0)) }
     {
         match create_disk(files, alloc, path, len) {
             Ok(disk) => Ok(disk),
@@ -79,10 +85,12 @@ impl DiskFile {
         self.len
     }
 
-    /// Reads the bytes from a place on. Refused are a range that goes past the end of the file (`Length`), with `out` as it was, and
-    /// a read that fails, which may have changed `out`.
-    pub fn read(&self, at: usize, out: &mut [u8]) -> Result<(), FileProblem>
-        ensures within { OnOk result (at + length out.old ≤ disk_len self.now) }
+    /// Reads the bytes from a place on, and answers the range that they are, of which clauses tell which bytes are known. Refused are a range
+    /// that goes past the end of the file (`Length`), with `out` as it was, and a read that fails, which may have changed `out`.
+    pub fn read(&self, at: usize, out: &mut [u8]) -> Result<KnownRange, FileProblem>
+        ensures within { IfOk result (λ _. at + length out.old ≤ disk_len self.now) }
+        ensures place { IfOk result (λ read. read_begin read ≡ at) }
+        ensures bytes { IfOk result (λ read. read_told read ≡ known out.new) }
         ensures same { disk_len self.now < at + length out.old → out.new ≡ out.old }
         ensures past { let end = at + length out.old in disk_len self.now < end → end < 2 ^ 64 → IsErrOf result (Length (disk_len self.now) end) }
     {
@@ -90,36 +98,38 @@ impl DiskFile {
             let wanted = at.saturating_add(out.len());
             return Err(length_problem(self.len, wanted));
         }
-        self.shared.file().read_exact_at(out, at as u64)?;
-        Ok(())
+        Ok(self.range.look(at, out)?)
     }
 
-    /// Writes bytes from a place on; what is written is kept once it was synced. Refused are a range that goes past the end of the
-    /// file (`Length`), with the file as it was, and a write that fails, of which any part may be done.
+    /// Writes bytes from a place on, which a read then gives; what is written is kept once it was synced. Refused are a range that goes
+    /// past the end of the file (`Length`), with the file as it was, and a write that fails, of which any part may be done.
     pub fn write(&mut self, at: usize, bytes: &[u8]) -> Result<(), FileProblem>
         ensures within { OnOk result (at + length bytes.now ≤ disk_len self.old) }
         ensures past { let end = at + length bytes.now in disk_len self.old < end → end < 2 ^ 64 → IsErrOf result (Length (disk_len self.old) end) }
         ensures len { disk_len self.new ≡ disk_len self.old }
         ensures blank { OnOk result (is_blank self.new ≡ false) }
+        ensures written { OnOk result (disk_told self.new ≡ with_told (disk_told self.old) at (known bytes.now)) }
+        ensures torn { at + length bytes.now ≤ disk_len self.old → OnErr result (disk_told self.new ≡ with_told (disk_told self.old) at (unknown (length bytes.now))) }
+        ensures same { disk_len self.old < at + length bytes.now → self.new ≡ self.old }
     {
         if !lies_within(at, bytes.len(), self.len) {
             let wanted = at.saturating_add(bytes.len());
             return Err(length_problem(self.len, wanted));
         }
         self.is_blank = false;
-        self.shared.file().write_all_at(bytes, at as u64)?;
+        self.range.write(at, bytes)?;
         Ok(())
     }
 
     /// Has the system keep what was written. Refused where the system fails, and from then on always, until the file is opened again.
     pub fn sync(&self) -> Result<(), FileProblem> {
-        self.shared.sync_data()?;
+        self.range.sync_data()?;
         Ok(())
     }
 
     /// Parts the file into media of these sizes, one behind the other: so no byte belongs to two of them, and each to one. All
-    /// are read into memory, those of a file that was made are zeros. What was read is written back and synced: after a sync that
-    /// failed in another process a read may give what the device does not have.
+    /// are read into memory, those of a file that was made are zeros. What was read is written back, and nothing else, and synced: after a
+    /// sync that failed in another process a read may give what the device does not have.
     ///
     /// Refused are sizes whose sum is another length than the file has (`Length`) or 2^63 bytes and more (`TooLarge`), a read,
     /// a write or a sync that fails, and a want of memory. The file is then closed, and a read gives of it what it gave before.
@@ -128,6 +138,7 @@ impl DiskFile {
         ensures places { IfOk result (λ media. map file_begin media.items ≡ places_from 0 sizes.now) }
         ensures opened { IfOk result (λ media. All IsOpened media.items) }
         ensures zeros { is_blank self ≡ true → IfOk result (λ media. All IsZero media.items) }
+        ensures kept { IfOk result (λ media. All (λ m. file_changes m ≡ disk_changes self) media.items) }
         ensures length { let total = sum_by byte_count sizes.now in total < 2 ^ 63 → total ≢ disk_len self → IsErrOf result (Length (disk_len self) total) }
         ensures large { 2 ^ 63 ≤ sum_by byte_count sizes.now → IsErrOf result TooLarge }
     {
@@ -137,39 +148,12 @@ impl DiskFile {
         if total != self.len {
             return Err(length_problem(self.len, total));
         }
+        let is_blank = self.is_blank;
+        let mut rest = self.range;
         let mut media = Vec::new(alloc);
-        self.push_media(alloc, sizes, &mut media)?;
-        self.sync_read()?;
+        push_media(alloc, &mut rest, is_blank, sizes, &mut media)?;
+        sync_read(&rest, is_blank)?;
         Ok(media)
-    }
-
-    // Has the system keep what was read of a file and written back.
-    fn sync_read(&self) -> Result<(), FileProblem> {
-        if self.is_blank {
-            return Ok(());
-        }
-        self.sync()
-    }
-
-    fn push_media(
-        &self,
-        alloc: Global,
-        sizes: &[Sizes],
-        media: &mut Vec<FileMedia>,
-    ) -> Result<(), FileProblem>
-        requires fits { sum_by byte_count sizes.now ≡ disk_len self.now }
-        requires empty { length media.old.items ≡ 0 }
-        ensures sizes { OnOk result (map file_sizes media.new.items ≡ sizes.now) }
-        ensures places { OnOk result (map file_begin media.new.items ≡ places_from 0 sizes.now) }
-        ensures opened { OnOk result (All IsOpened media.new.items) }
-        ensures zeros { is_blank self.now ≡ true → OnOk result (All IsZero media.new.items) }
-    {
-        let mut begin = 0usize;
-        for one in sizes {
-            push(media, self.medium(alloc, begin, *one)?)?;
-            begin += one.fast + one.block + one.slow;
-        }
-        Ok(())
     }
 
     // The only medium of the file.
@@ -186,48 +170,12 @@ impl DiskFile {
         if len != self.len {
             return Err(length_problem(self.len, len));
         }
-        let medium = self.medium(alloc, 0, sizes)?;
-        self.sync_read()?;
+        let is_blank = self.is_blank;
+        let mut rest = self.range;
+        let part = rest.take_front(len)?;
+        let medium = medium(alloc, part, is_blank, sizes)?;
+        sync_read(&rest, is_blank)?;
         Ok(medium)
-    }
-
-    // The medium of these sizes whose bytes begin at a place of the file.
-    fn medium(&self, alloc: Global, begin: usize, sizes: Sizes) -> Result<FileMedia, FileProblem>
-        requires fits { begin + byte_count sizes ≤ disk_len self.now }
-        ensures sizes { IfOk result (λ m. file_sizes m ≡ sizes) }
-        ensures place { IfOk result (λ m. file_begin m ≡ begin) }
-        ensures opened { IfOk result IsOpened }
-        ensures zeros { is_blank self.now ≡ true → IfOk result IsZero }
-    {
-        let tiers = self.make_tiers(alloc, begin, sizes)?;
-        let shared = Arc::try_clone(&self.shared)?;
-        Ok(FileMedia::of(shared, begin, tiers))
-    }
-
-    // The tiers of these sizes whose bytes begin at a place of the file, which are zeros where it was made.
-    fn make_tiers(&self, alloc: Global, begin: usize, sizes: Sizes) -> Result<Tiers, FileProblem>
-        requires fits { begin + byte_count sizes ≤ disk_len self.now }
-        ensures fast { IfOk result (λ tiers. length (row tiers Fast) ≡ sizes.fast) }
-        ensures block { IfOk result (λ tiers. length (row tiers Block) ≡ sizes.block) }
-        ensures slow { IfOk result (λ tiers. length (row tiers Slow) ≡ sizes.slow) }
-        ensures zeros { is_blank self.now ≡ true → IfOk result (λ tiers. (t : Tier) → row tiers t ≡ replicate (length (row tiers t)) 0) }
-    {
-        if !self.is_blank {
-            return self.read_medium(alloc, begin, sizes);
-        }
-        Ok(zeros(alloc, sizes)?)
-    }
-
-    // The tiers of these sizes whose bytes begin at a place of the file, where they are written back.
-    fn read_medium(&self, alloc: Global, begin: usize, sizes: Sizes) -> Result<Tiers, FileProblem>
-        requires fits { begin + byte_count sizes ≤ disk_len self.now }
-        ensures fast { IfOk result (λ tiers. length (row tiers Fast) ≡ sizes.fast) }
-        ensures block { IfOk result (λ tiers. length (row tiers Block) ≡ sizes.block) }
-        ensures slow { IfOk result (λ tiers. length (row tiers Slow) ≡ sizes.slow) }
-    {
-        let tiers = read_tiers(alloc, self.shared.file(), begin, sizes)?;
-        write_tiers(self.shared.file(), begin, &tiers)?;
-        Ok(tiers)
     }
 
     /// Gives a file another name in its folder, kept on its device. Its media may be in use.
@@ -311,7 +259,8 @@ pub(crate) fn open_disk<R: Files<File = File>>(
     alloc: Global,
     path: &str,
 ) -> Result<DiskFile, FileProblem>
-    ensures { IfOk result (λ disk. disk.is_blank ≡ false) }
+    ensures bytes { IfOk result (λ disk. disk.is_blank ≡ false) }
+    ensures nothing { IfOk result (λ disk. range_told disk.range ≡ unknown disk.len) }
 {
     let file = open_locked(files, path)?;
     let len = file.metadata()?.len();
@@ -319,9 +268,10 @@ pub(crate) fn open_disk<R: Files<File = File>>(
         return Err(FileProblem::TooLarge);
     }
     file.sync_all()?;
+    let len = len as usize;
     Ok(DiskFile {
-        shared: share_file(alloc, file)?,
-        len: len as usize,
+        range: FileRange::of_file(share_file(alloc, file)?, len),
+        len,
         is_blank: false,
     })
 }
@@ -335,6 +285,7 @@ pub(crate) fn create_disk<R: Files<File = File>>(
 ) -> Result<DiskFile, FileProblem>
     ensures len { IfOk result (λ disk. disk.len ≡ len) }
     ensures blank { IfOk result (λ disk. disk.is_blank ≡ true) }
+    ensures zeros { IfOk result (λ disk. range_told disk.range ≡ known (replicate len 0)) }
 {
     if MAX_BYTES < len {
         return Err(FileProblem::TooLarge);
@@ -353,13 +304,6 @@ fn share_file(alloc: Global, file: File) -> Result<Arc<SharedFile>, AllocError> 
     Ok(Arc::new(alloc, SharedFile::of(file))?)
 }
 
-fn push(media: &mut Vec<FileMedia>, one: FileMedia) -> Result<(), AllocError>
-    ensures { OnOk result (media.new.items ≡ media.old.items ++ one ∷ []) }
-{
-    media.push(one)?;
-    Ok(())
-}
-
 // The empty file, which is filled with zeros, or else is taken away.
 fn blank_disk<R: Files<File = File>>(
     files: &R,
@@ -371,10 +315,12 @@ fn blank_disk<R: Files<File = File>>(
     requires { len < 2 ^ 63 }
     ensures len { IfOk result (λ disk. disk.len ≡ len) }
     ensures blank { IfOk result (λ disk. disk.is_blank ≡ true) }
+    ensures zeros { IfOk result (λ disk. range_told disk.range ≡ known (replicate len 0)) }
 {
-    match fill_file(files, alloc, path, shared.file(), len) {
+    let mut range = FileRange::of_file(shared, len);
+    match fill_file(files, alloc, path, &mut range, len) {
         Ok(()) => Ok(DiskFile {
-            shared,
+            range,
             len,
             is_blank: true,
         }),

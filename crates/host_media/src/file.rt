@@ -7,10 +7,12 @@ ghost use Rattle.tier_device.specs.Media.{overwritten, Puts, Keeps, Tears, Tears
 ghost use Rattle.host_media.specs.Cover.{Fails};
 ghost use Rattle.host_media.specs.Place.{total};
 ghost use Rattle.host_media.specs.Mirror.{mirrored_failed};
+ghost use Rattle.host_media.specs.FileBytes.{known};
+ghost use Rattle.host_media.specs.FileRange.{range_begin, range_changes, range_told};
+ghost use Rattle.host_media.specs.Images.{content_bytes};
 
+use crate::file_range::FileRange;
 use crate::mirror::Mirrored;
-use crate::shared_file::SharedFile;
-use std::sync::Arc;
 use tier_device::{Media, MediaError, Tier, Tiers, lies_within};
 
 /// A medium whose tiers lie in a file, from a place of it on, the fast one first. Reads come from a mirror in memory; a write goes
@@ -30,17 +32,19 @@ pub struct FileMedia {
 }
 
 impl FileMedia {
-    ghost use Rattle.host_media.specs.File.{file_seen, file_left, file_moment, file_failed, failures, kept_by_system, file_begin, IsOpened};
+    ghost use Rattle.host_media.specs.File.{file_seen, file_left, file_moment, file_failed, failures, kept_by_system, file_begin, file_changes, file_told, IsOpened};
 
-    // The medium over an open file that was synced, of which a read gives these tiers from a place of it on.
-    pub(crate) fn of(file: Arc<SharedFile>, begin: usize, tiers: Tiers) -> Self
-        requires fits { begin + total tiers < 2 ^ 63 }
+    // The medium over a range of an open file that was synced, of which a read gives these tiers.
+    pub(crate) fn of(range: FileRange, tiers: Tiers) -> Self
+        requires fits { range_begin range + total tiers < 2 ^ 63 }
+        requires stands { range_told range ≡ known (content_bytes (row tiers)) }
         ensures tiers { result.inner.tiers ≡ tiers }
-        ensures begin { file_begin result ≡ begin }
+        ensures begin { file_begin result ≡ range_begin range }
+        ensures changes { file_changes result ≡ range_changes range }
         ensures opened { IsOpened result }
     {
         FileMedia {
-            inner: Mirrored::of(file, begin, tiers),
+            inner: Mirrored::of(range, tiers),
             faults: 0,
         }
     }
@@ -58,6 +62,12 @@ impl FileMedia {
     {
         self.inner.is_failed()
     }
+
+    /// Until a call of it has failed, what was last read or written at each place of its range of the file is just what a read of its tiers
+    /// gives, one behind the other.
+    pub fn stands_in_file(&self)
+        ensures { file_failed self.now ≡ false → file_told self.now ≡ known (content_bytes (file_seen self.now)) }
+    {}
 
     /// Each content that a stop may leave of the file, by what the system was given and the syncs that it answered with success,
     /// is one that the device model allows.

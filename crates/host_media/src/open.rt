@@ -95,5 +95,5 @@ fn create_file<R: Files<File = File>>(
     };
     let tiers = zeros(alloc, sizes)?;
     let disk = create_disk(files, alloc, path, len)?;
-    Ok(FileMedia::of(disk.shared, 0, tiers))
+    Ok(FileMedia::of(disk.range, tiers))
 }

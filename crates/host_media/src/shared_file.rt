@@ -30,7 +30,7 @@ impl SharedFile {
         }
     }
 
-    // The open file.
+    // The open file. Its bytes are read and written by `FileRange` alone, which tells what is known of them.
     pub(crate) fn file(&self) -> &File {
         &self.file
     }

@@ -15,7 +15,7 @@ pub trait ImageHome {
         ensures { OnOk result (keeps self.now bytes.now) };
 }
 
-/// An image file, and its path. No clause says that it holds the bytes then, since the contracts of files say nothing of what they hold.
+/// An image file, and its path. No clause says that it holds the bytes then: `ImageFile::replace` answers a file that has them, and no contract says what a name leads to.
 #[derive(Drop)]
 pub struct FileHome<'a> {
     pub rt: &'a HostRuntime,
@@ -27,6 +27,7 @@ impl ImageHome for FileHome<'_> {
     ghost keeps = { λ _ _. Unit {0} };
 
     fn keep(&self, alloc: Global, bytes: &[u8]) -> Result<(), WorldFileError> {
-        self.file.replace(self.rt, alloc, self.path, bytes)
+        self.file.replace(self.rt, alloc, self.path, bytes)?;
+        Ok(())
     }
 }

@@ -22,7 +22,8 @@ use Rattle.world_files.specs.Fronts.{HasAnotherLength, HasNoFront}
 use Rattle.world_files.specs.PartSizes.{part_sizes, sizes_asked}
 use Rattle.world_files.specs.Worlds.{IsEmptyWorld, IsUnrecovered}
 
--- The media of a world of this geometry lie in a file one behind the other, and are as they are when the file has been opened.
+-- The media of a world of this geometry lie in a file one behind the other, and are as they are when the file has been opened: each tier is what the file has in
+-- its own place.
 pub record AreOnDisk (g : Sizes) (v : PartsView FileMedia) : Type 0 where
   pub sizes : map file_sizes (v.shared ∷ v.regions) ≡ part_sizes g
   pub places : map file_begin (v.shared ∷ v.regions) ≡ places_from 0 (part_sizes g)

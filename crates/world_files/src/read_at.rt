@@ -1,6 +1,7 @@
 // Bytes of a file, from a place on.
 ghost use Rattle.std.specs.Prelude.{◌≡◌, ◌≤◌, ◌+◌, ℕ, List, length, OnOk};
 ghost use Rattle.host_media.specs.DiskFile.{disk_len};
+ghost use Rattle.host_media.specs.FileRange.{IsRead};
 
 use host_media::{DiskFile, FileProblem};
 
@@ -24,13 +25,14 @@ pub trait ReadAt {
 impl ReadAt for DiskFile {
     ghost size = { disk_len };
 
-    ghost gives = { λ disk at bytes. at + length bytes ≤ disk_len disk };
+    ghost gives = { λ disk at bytes. (at + length bytes ≤ disk_len disk) × IsRead at bytes };
 
     fn size(&self) -> usize {
         self.len()
     }
 
     fn read_at(&self, at: usize, out: &mut [u8]) -> Result<(), FileProblem> {
-        self.read(at, out)
+        self.read(at, out)?;
+        Ok(())
     }
 }

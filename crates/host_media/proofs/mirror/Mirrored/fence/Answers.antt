@@ -18,4 +18,5 @@ invariant_of-self c =
       covered = ∥∥₁_map m.covered (cover_fence f h k t grown (λ d left. m.settled t c.in_ok-settle.ensures.settled d left ∙ m.shows t));
       settled = m.settled;
       fits = m.fits;
+      stands = m.stands;
     }

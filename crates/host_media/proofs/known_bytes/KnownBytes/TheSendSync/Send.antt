@@ -1,0 +1,6 @@
+-- What is known owns nothing, so it may go to another thread.
+use denote.Param.Send.{IsSend}
+use Rattle.host_media.specs.contracts.known_bytes.KnownBytes.{the_row}
+
+pub send : IsSend the_row
+send = record { owned = λ d vs. ((λ vss. (tt, tt)), tt); leaving = λ k f vs. tt }
