@@ -53,7 +53,7 @@ impl MountTree {
         match serve_call(&mut self.world, self.client, call, true) {
             CallResult::Reply(reply) => reply,
             CallResult::NoMemory => failure(Errno::NoMemory),
-            _ => failure(Errno::Again),
+            CallResult::Blocked | CallResult::Pending => failure(Errno::Again),
         }
     }
 
