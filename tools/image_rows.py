@@ -231,7 +231,8 @@ SUPERBLOCKS = [
     ("the least data blocks for the units", [], Tree(EMPTY)),
     ("another last letter", [superblock(text=b"STRATAFT")], ANY),
     ("version 0", [superblock(version=0)], ANY),
-    ("version 2", [superblock(version=2)], ANY),
+    ("version 2, in which each tree may be one block", [superblock(version=2)], Tree(EMPTY)),
+    ("version 3", [superblock(version=3)], ANY),
     ("one unit", [superblock(units=1)], ANY),
     ("65,537 units", [superblock(units=65_537)], ANY),
     ("65,537 fast blocks", [superblock(fast=65_537)], ANY),
@@ -569,7 +570,8 @@ JOURNALS = [
         Tree(TREE),
     ),
     ("the superblock as it is", [journal((0, it.superblock(SIZES)))], Tree(TREE)),
-    ("a superblock of another version", [journal((0, it.superblock(SIZES, version=2)))], SUPERBLOCK),
+    ("a superblock of version 2", [journal((0, it.superblock(SIZES, version=2)))], Tree(TREE)),
+    ("a superblock of another version", [journal((0, it.superblock(SIZES, version=3)))], SUPERBLOCK),
     ("a superblock of a unit fewer", [journal((0, it.superblock(SIZES._replace(units=319))))], ANY),
 ]
 

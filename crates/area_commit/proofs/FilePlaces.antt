@@ -1,14 +1,14 @@
 -- Where the blocks of a file lie.
 use Rattle.std.proofs.Common.{◌≡◌, ◌+◌, ◌-◌, ◌≤◌, ℕ, List, [], ◌∷◌, true, Option, Some, None, refl, sym, ap, subst, ◌∙◌, arith, inl, inr}
-use Rattle.std.specs.Prelude.{◌==◌, nat_le, option_map, unwrap_or}
+use Rattle.std.specs.Prelude.{◌==◌, ◌&&◌, nat_le, option_map, unwrap_or}
 use Rattle.std.specs.List.{list_all}
-use Rattle.std.proofs.lemmas.Bool.{cases_Bool, cond-true, cond-false, and_parts, leb-true}
+use Rattle.std.proofs.lemmas.Bool.{cases_Bool, cond-true, cond-false, and_parts, leb-true, eqb-true}
 use Rattle.tier_device.specs.declared.media.Tier.{Tier}
 use Rattle.tier_device.specs.declared.media.Tier.TheVariants.{Fast}
 use Rattle.area_reader.specs.layout.declared.geometry.Space.{Space}
 use Rattle.area_reader.specs.layout.declared.geometry.Space.TheVariants as space
 use Rattle.area_reader.specs.layout.declared.extents.Extent.{Extent}
-use Rattle.area_reader.specs.layout.Extents.{is_extent, is_sound, extents_of}
+use Rattle.area_reader.specs.layout.Extents.{is_extent, is_entry, is_sound, extents_of}
 use Rattle.area_reader.specs.layout.Places.{Sizes, is_run, data_first, tier_blocks}
 use Rattle.area_reader.specs.extent_tree.Places.{has, place_in, extent_with as first_extent, place_of}
 use Rattle.area_reader.specs.Store.{Store, slot, root_of, space_of, length_of, is_own, own_extents, extents_read, place}
@@ -36,8 +36,11 @@ all_fit g p i n bytes es e =
     let v = bind_some (extents_of g p bytes) _ es e in
     let t = test_some (is_own i n v.0) v.0.extents es v.2 in
     let fits = and_parts _ (is_sound v.0) (extents_fit g p bytes v.0 v.1) in
-    let each = and_parts _ (list_all (is_extent g p) v.0.extents) fits.0 in
-    subst (λ (xs : List Extent). list_all (is_extent g p) xs ≡ true) t.1 each.1
+    let each = and_parts _ (list_all (is_entry g p v.0.level) v.0.extents) fits.0 in
+    let own = and_parts ((v.0.owner == i) && (v.0.level == 0)) _ t.0 in
+    let lowest : v.0.level ≡ 0 = eqb-true v.0.level 0 (and_parts (v.0.owner == i) (v.0.level == 0) own.0).1 in
+    let runs : list_all (is_extent g p) v.0.extents ≡ true = subst (λ (level : ℕ). list_all (is_entry g p level) v.0.extents ≡ true) lowest each.1 in
+    subst (λ (xs : List Extent). list_all (is_extent g p) xs ≡ true) t.1 runs
 
 -- a block of a file lies among the data blocks of its tier
 pub file_place : (g : Sizes) (s : Store) (i : ℕ) (t : Tier) (k b : ℕ) → space_of (slot g s i) t ≡ space.Data t → place g s i t k ≡ Some b → data_first g t ≤ b

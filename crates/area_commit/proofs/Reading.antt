@@ -1,6 +1,6 @@
 -- What is read of an inode that is written anew.
 use Rattle.std.proofs.Common.{◌≡◌, ◌<◌, inl, inr, ℕ, List, [], true, refl, sym, ap, ◌∙◌, Option, Some, None}
-use Rattle.std.specs.Prelude.{◌==◌, nat_le, is_some, unwrap_or, if◌then◌else◌}
+use Rattle.std.specs.Prelude.{◌==◌, ◌&&◌, nat_le, is_some, unwrap_or, if◌then◌else◌}
 use Rattle.std.specs.Option.{option_map}
 use Rattle.std.specs.List.{list_all}
 use Rattle.std.proofs.lemmas.Bool.{and_from, eq-eqb, ne_eqb, cond-true, cond-false}
@@ -35,7 +35,7 @@ own_read : (g : Sizes) (p : Space) (i n : ℕ) (bytes : List ℕ) (runs : List E
 unfolding own_extents
 own_read g p i n bytes runs is law ends =
     ap (λ (o : Option ExtentList). o >>= λ v. if is_own i n v then Some v.extents else None) (ap (extents_of g p) is ∙ law)
-    ∙ cond-true (is_own i n (list_of i runs)) (Some runs) None (and_from (i == i) (list_all (λ e. nat_le (end_of e) n) runs) (eq-eqb i i refl) ends)
+    ∙ cond-true (is_own i n (list_of i runs)) (Some runs) None (and_from ((i == i) && (0 == 0)) (list_all (λ e. nat_le (end_of e) n) runs) (and_from (i == i) (0 == 0) (eq-eqb i i refl) refl) ends)
 
 module _ (g : Sizes) (s : Store) (i : ℕ) (x : Slot) (m : TierRuns) (spelled : AreSpelled g i x m) (number : is_inode i ≡ true) (written : IsWritten s i x m) where
   pub slot_again : slot_read g s i ≡ Some x

@@ -6,12 +6,13 @@ use Rattle.std.proofs.lemmas.Bool.{cases_Bool, cond-true, cond-false, and_parts,
 use Rattle.tier_device.specs.declared.media.Tier.{Tier}
 use Rattle.tier_device.specs.declared.media.Tier.TheVariants.{Fast}
 use Rattle.batch_journal.specs.layout.declared.extents.Extent.{Extent}
-use Rattle.batch_journal.specs.layout.Extents.{is_sound, is_apart, places_apart, extents_of}
+use Rattle.batch_journal.specs.layout.Bytes.{all_pairs}
+use Rattle.batch_journal.specs.layout.Extents.{is_sound, is_apart, are_apart, places_apart, extents_of}
 use Rattle.batch_journal.specs.layout.declared.geometry.Space.{Space}
 use Rattle.batch_journal.specs.layout.Places.{Sizes}
 use Rattle.extent_tree.specs.Places.{has, place_in, extent_with as first_extent, place_of}
 use Rattle.area_reader.specs.Store.{Store, slot, root_of, space_of, length_of, is_own, own_extents, extents_read, place}
-use Rattle.area_reader.proofs.Lists.{bind_some, test_some, some_is, extents_fit}
+use Rattle.area_reader.proofs.Lists.{bind_some, test_some, some_is, extents_fit, level_zero}
 
 -- a place that an extent of a list has
 record IsIn (p : ℕ) (e : Extent) : Type 0 where
@@ -82,8 +83,9 @@ own_apart g p i n bytes es e =
     let v = bind_some (extents_of g p bytes) _ es e in
     let t = test_some (is_own i n v.0) v.0.extents es v.2 in
     let fits = and_parts _ (is_sound v.0) (extents_fit g p bytes v.0 v.1) in
-    let sound = and_parts _ (places_apart v.0.extents) fits.1 in
-    subst (λ (x : List Extent). places_apart x ≡ true) t.1 sound.1
+    let sound = and_parts _ (all_pairs (are_apart v.0.level) v.0.extents) fits.1 in
+    let lowest : places_apart v.0.extents ≡ true = subst (λ (level : ℕ). all_pairs (are_apart level) v.0.extents ≡ true) (level_zero i n v.0 t.0) sound.1 in
+    subst (λ (x : List Extent). places_apart x ≡ true) t.1 lowest
 
 pub place_once : (g : Sizes) (s : Store) (i : ℕ) (t : Tier) (j k p : ℕ) → place g s i t j ≡ Some p → place g s i t k ≡ Some p → j ≡ k
 unfolding extents_read

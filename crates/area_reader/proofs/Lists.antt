@@ -11,7 +11,7 @@ use Rattle.batch_journal.specs.layout.declared.geometry.Space.TheVariants as spa
 use Rattle.batch_journal.specs.layout.declared.extents.Extent.{Extent}
 use Rattle.batch_journal.specs.layout.declared.slot.Slot.{Slot}
 use Rattle.batch_journal.specs.layout.declared.slot.Slot.TheVariants as slots
-use Rattle.batch_journal.specs.layout.Extents.{ExtentList, ExtentHead, is_extent, is_sound, fits_extents, header_at, extent_at, extents_at, extents_of}
+use Rattle.batch_journal.specs.layout.Extents.{ExtentList, ExtentHead, is_extent, is_entry, is_sound, fits_extents, header_at, extent_at, extents_at, extents_of}
 use Rattle.batch_journal.specs.layout.Places.{Sizes, is_inode, is_run, data_first, tier_blocks, node_end}
 use Rattle.batch_journal.specs.layout.Slot.{slot_at, slot_from, slot_of, fits_slot}
 use Rattle.extent_tree.specs.Places.{has, end_of, place_in, extent_with as first_extent, place_of}
@@ -69,15 +69,15 @@ items_pass {A = A} field p each (suc n) bytes x e =
     let rest = items_pass field p each n a.0.1 b.0 b.1 in
     subst (λ (y : List A × List ℕ). AreItems p (suc n) y.0) (some_is made x b.2) (record { each = and_from _ _ (each bytes a.0 a.1) rest.each; long = ap suc rest.long })
 
-extent_passes : (g : Sizes) (p : Space) (bytes : List ℕ) (x : Extent × List ℕ) → extent_at g p bytes ≡ Some x → is_extent g p x.0 ≡ true
+extent_passes : (g : Sizes) (p : Space) (level : ℕ) (bytes : List ℕ) (x : Extent × List ℕ) → extent_at g p level bytes ≡ Some x → is_entry g p level x.0 ≡ true
 unfolding extent_at
-extent_passes g p bytes x e =
+extent_passes g p level bytes x e =
     let l = bind_some (number_at 4 bytes) _ x e in
     let n = bind_some (number_at 4 l.0.1) _ x l.2 in
     let k = bind_some (number_at 4 n.0.1) _ x n.2 in
     let read : Extent = record { logical = l.0.0; length = n.0.0; place = k.0.0 } in
-    let t = test_some (is_extent g p read) (read, k.0.1) x k.2 in
-    subst (λ (y : Extent × List ℕ). is_extent g p y.0 ≡ true) t.1 t.0
+    let t = test_some (is_entry g p level read) (read, k.0.1) x k.2 in
+    subst (λ (y : Extent × List ℕ). is_entry g p level y.0 ≡ true) t.1 t.0
 
 header_few : (bytes : List ℕ) (h : ExtentHead × List ℕ) → header_at bytes ≡ Some h → nat_le h.0.count 340 ≡ true
 unfolding header_at
@@ -92,15 +92,16 @@ header_few bytes h e =
 
 record ListKeeps (g : Sizes) (p : Space) (v : ExtentList) : Type 0 where
   few : nat_le (length v.extents) 340 ≡ true
-  each : list_all (is_extent g p) v.extents ≡ true
+  each : list_all (is_entry g p v.level) v.extents ≡ true
 
 list_keeps : (g : Sizes) (p : Space) (bytes : List ℕ) (x : ExtentList × List ℕ) → extents_at g p bytes ≡ Some x → ListKeeps g p x.0
 unfolding extents_at
 list_keeps g p bytes x e =
     let h = bind_some (header_at bytes) _ x e in
-    let es = bind_some (items_at (extent_at g p) h.0.0.count h.0.1) _ x h.2 in
+    let level = h.0.0.level in
+    let es = bind_some (items_at (extent_at g p level) h.0.0.count h.0.1) _ x h.2 in
     let made : ExtentList × List ℕ = (record { owner = h.0.0.owner; level = h.0.0.level; extents = es.0.0 }, es.0.1) in
-    let items = items_pass (extent_at g p) (is_extent g p) (extent_passes g p) h.0.0.count h.0.1 es.0 es.1 in
+    let items = items_pass (extent_at g p level) (is_entry g p level) (extent_passes g p level) h.0.0.count h.0.1 es.0 es.1 in
     subst (λ (y : ExtentList × List ℕ). ListKeeps g p y.0) (some_is made x es.2) (record { few = ap (λ n. nat_le n 340) items.long ∙ header_few bytes h.0 h.1; each = items.each })
 
 pub extents_fit : (g : Sizes) (p : Space) (bytes : List ℕ) (v : ExtentList) → extents_of g p bytes ≡ Some v → fits_extents g p v ≡ true
@@ -114,16 +115,23 @@ extents_fit g p bytes v e =
     let keeps = subst (ListKeeps g p) t.1 (list_keeps g p bytes x.0 x.1) in
     subst (λ (y : ExtentList). fits_extents g p y ≡ true) u.1 (and_from _ _ (and_from _ _ keeps.few keeps.each) u.0)
 
-pub level_zero : (g : Sizes) (p : Space) (v : ExtentList) → fits_extents g p v ≡ true → v.level ≡ 0
-level_zero g p v fit =
-    let a = and_parts _ (is_sound v) fit in
-    let b = and_parts _ _ a.1 in
-    let c = and_parts _ _ b.0 in
-    let d = and_parts (is_inode v.owner) (v.level == 0) c.0 in
-    eqb-true v.level 0 d.1
+-- what it is to be the inode's
+pub record OwnParts (i n : ℕ) (v : ExtentList) : Type 0 where
+  pub owner : v.owner ≡ i
+  pub level : v.level ≡ 0
+  pub end : list_all (λ e. nat_le (end_of e) n) v.extents ≡ true
+
+pub own_parts : (i n : ℕ) (v : ExtentList) → is_own i n v ≡ true → OwnParts i n v
+own_parts i n v own =
+    let a = and_parts ((v.owner == i) && (v.level == 0)) (list_all (λ e. nat_le (end_of e) n) v.extents) own in
+    let b = and_parts (v.owner == i) (v.level == 0) a.0 in
+    record { owner = eqb-true v.owner i b.0; level = eqb-true v.level 0 b.1; end = a.1 }
+
+pub level_zero : (i n : ℕ) (v : ExtentList) → is_own i n v ≡ true → v.level ≡ 0
+level_zero i n v own = (own_parts i n v own).level
 
 pub owner_same : (i n : ℕ) (v : ExtentList) → is_own i n v ≡ true → v.owner ≡ i
-owner_same i n v own = eqb-true v.owner i (and_parts (v.owner == i) _ own).0
+owner_same i n v own = (own_parts i n v own).owner
 
 -- ---- places
 
@@ -136,10 +144,10 @@ unfolding own_extents
 own_list g p i n bytes es e =
     let v = bind_some (extents_of g p bytes) _ es e in
     let t = test_some (is_own i n v.0) v.0.extents es v.2 in
-    let own = and_parts (v.0.owner == i) (list_all (λ e. nat_le (end_of e) n) v.0.extents) t.0 in
+    let own = own_parts i n v.0 t.0 in
     let fits = and_parts _ (is_sound v.0) (extents_fit g p bytes v.0 v.1) in
-    let each = and_parts _ (list_all (is_extent g p) v.0.extents) fits.0 in
-    subst (OwnList g p i n) t.1 (record { each = each.1; end = own.1 })
+    let each = and_parts _ (list_all (is_entry g p v.0.level) v.0.extents) fits.0 in
+    subst (OwnList g p i n) t.1 (record { each = subst (λ (level : ℕ). list_all (is_entry g p level) v.0.extents ≡ true) own.level each.1; end = own.end })
 
 record AtExtent (g : Sizes) (p : Space) (n k b : ℕ) : Type 0 where
   extent : Extent

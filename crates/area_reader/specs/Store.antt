@@ -86,9 +86,9 @@ space_of slots.Free t = space.Data t
 space_of (slots.File names size touch fast block slow) t = space.Data t
 space_of (slots.Directory names entries touch root) t = space.Nodes
 
--- whether extents are this inode's, and none ends behind so many logical blocks
+-- whether extents are this inode's, in a tree of one block, and none ends behind so many logical blocks
 abbrev pub is_own : ℕ → ℕ → ExtentList → Bool
-is_own owner blocks v = (v.owner == owner) && list_all (λ e. nat_le (end_of e) blocks) v.extents
+is_own owner blocks v = (v.owner == owner) && (v.level == 0) && list_all (λ e. nat_le (end_of e) blocks) v.extents
 
 -- the extents that a block spells, if they are that inode's and none ends behind so many
 unfoldable pub own_extents : Sizes → Space → ℕ → ℕ → List ℕ → Option (List Extent)

@@ -96,11 +96,11 @@ fn spelled_extents(
     }
 }
 
-// Whether they are the inode's, and end within so many blocks.
+// Whether they are the inode's, of level 0, and end within so many blocks.
 fn is_own(found: &ExtentBlock, inode: u32, blocks: u64) -> bool
     ensures { result ≡ is_own inode blocks found.now }
 {
-    found.owner() == inode && end_within(found.extents(), blocks)
+    found.owner() == inode && found.level() == 0 && end_within(found.extents(), blocks)
 }
 
 fn end_within(extents: &[Extent], blocks: u64) -> bool

@@ -98,10 +98,7 @@ pub no_calls_to_open : (g : Sizes) → opening_calls (fresh_fast g) ≡ 0
 no_calls_to_open g = cond-false (is_gate_open (fresh_fast g)) _ _ (shut g)
 
 one_geometry : (g h : Sizes) (bytes : List ℕ) → Spells g bytes → Spells h bytes → g ≡ h
-one_geometry g h bytes s t =
-    let both : ◌≡◌ {A = Option Super} (Some (record { geometry = g })) (Some (record { geometry = h })) = sym s ∙ t in
-    let same : ◌≡◌ {A = Super} (record { geometry = g }) (record { geometry = h }) = cc in
-    ap (λ (s : Super). s.geometry) same
+one_geometry g h bytes s t = cc
 
 module _ {M : Type 0} (device : Ghosts M) (seen_now : (m : M) (t : Tier) → device.left m (device.moment m) t (device.seen m t))
     (sized : (m : M) (k : ℕ) (t : Tier) (c : List ℕ) → k ≤ device.moment m → device.left m k t c → length c ≡ length (device.seen m t))

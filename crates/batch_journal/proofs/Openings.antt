@@ -1,8 +1,7 @@
 -- What a medium holds, by what is read of it.
-use Rattle.std.proofs.Common.{◌≡◌, inl, inr, ℕ, zero, suc, ◌+◌, ◌-◌, ◌*◌, ◌/◌, ◌≤◌, List, length, refl, sym, ◌∙◌, ap, subst, arith, true, false, cond, ◌==◌, Option, Some, None}
+use Rattle.std.proofs.Common.{◌≡◌, inl, inr, ℕ, zero, suc, ◌+◌, ◌-◌, ◌*◌, ◌/◌, ◌≤◌, List, length, refl, sym, ◌∙◌, ap, subst, arith, true, false, cond, ◌==◌, Some}
 use Rattle.std.proofs.lemmas.Bool.Decides.{eqb_tells}
 use Rattle.std.proofs.lemmas.Bool.{false≢true}
-use Rattle.layout.specs.declared.superblock.Super.{Super}
 use Rattle.layout.specs.Places.{Sizes, tier_blocks}
 use Rattle.tier_device.specs.declared.media.Tier.{Tier}
 use Rattle.tier_device.specs.declared.media.Tier.TheVariants.{Fast}
@@ -49,13 +48,8 @@ first_spells g bytes c opened read journal =
     let rises = rising_rises g 0 (images_of bytes) (head_read g c bytes read (journal.head opened)).rising in
     subst (λ (b : List ℕ). Spells g b) (first_home bytes c opened read rises) journal.superblock
 
-geometry_or : Sizes → Option Super → Sizes
-geometry_or g None = g
-geometry_or g (Some s) = s.geometry
-
 pub spells_one : (g h : Sizes) (b : List ℕ) → Spells g b → Spells h b → g ≡ h
-unfolding geometry_or
-spells_one g h b first second = ap (geometry_or g) (sym first ∙ second)
+spells_one g h b first second = cc
 
 pub open_volume : (g : Sizes) (seen : Tier → List ℕ) (bytes : List ℕ) → is_gate_open (seen Fast) ≡ true → IsBatchRead (seen Fast) bytes → are_zero (rest_of_gate (seen Fast)) ≡ true → HasSizes g seen
     → Spells g (first_block bytes (seen Fast)) → IsHead g bytes → IsVolume g seen

@@ -1,5 +1,5 @@
 -- The contents that a journal can be opened from.
-use Rattle.std.specs.Prelude.{◌≡◌, ℕ, ◌*◌, ◌≤◌, List, length, Some, true, IfSome}
+use Rattle.std.specs.Prelude.{◌≡◌, ℕ, ◌*◌, ◌≤◌, List, length, Some, option_map, true, IfSome}
 use Rattle.tier_device.specs.declared.media.Tier.{Tier}
 use Rattle.tier_device.specs.declared.media.Tier.TheVariants.{Fast}
 use Rattle.layout.specs.Places.{Sizes, tier_blocks}
@@ -8,9 +8,9 @@ use Rattle.batch_journal.specs.Images.{image_count, images_of, image_for, rest_o
 use Rattle.layout.specs.Bytes.{are_zero}
 use Rattle.batch_journal.specs.Blocks.{home, is_gate_open, area_of, rest_of_gate, after_batch, RisesJournaled}
 
--- The block spells the superblock of this geometry.
+-- The block spells a superblock of this geometry, of whichever version.
 abbrev pub Spells : Sizes → List ℕ → Type 0
-Spells g bytes = super_of bytes ≡ Some (record { geometry = g })
+Spells g bytes = option_map (λ s. s.geometry) (super_of bytes) ≡ Some g
 
 -- Each tier has the size that the geometry tells.
 abbrev pub HasSizes : Sizes → (Tier → List ℕ) → Type 0

@@ -1,6 +1,6 @@
 -- What the bytes of a block of extents hold, entry by entry.
 use Rattle.std.proofs.Common.{◌≡◌, ◌≤◌, ◌<◌, ◌&&◌, ℕ, zero, suc, ◌+◌, ◌-◌, ◌*◌, true, cond, leb, eqb, List, [], ◌∷◌, length, take, drop, get_or, Option, Some, None, refl, sym, ap, subst, ◌∙◌, arith}
-use Rattle.std.specs.Prelude.{◌==◌}
+use Rattle.std.specs.Prelude.{nat_le}
 use Rattle.std.specs.List.{list_all}
 use Rattle.std.proofs.lemmas.Bool.{and_parts, leb-true}
 use Rattle.std.proofs.lemmas.List.{drop-drop, length-drop, take_all}
@@ -9,8 +9,8 @@ use Rattle.layout.specs.declared.places.TheConstants.{BLOCK}
 use Rattle.layout.specs.declared.geometry.Space.{Space}
 use Rattle.layout.proofs.Items.{items_pass}
 use Rattle.layout.specs.Places.{Sizes, is_inode, blocks_in}
-use Rattle.layout.specs.Bytes.{◌>>=◌, number_at, items_at, within, are_zero}
-use Rattle.layout.specs.Extents.{ExtentList, ExtentHead, is_extent, are_sorted, places_apart, is_sound, header_at, extent_at, extents_at, extents_of}
+use Rattle.layout.specs.Bytes.{◌>>=◌, number_at, items_at, within, are_zero, all_pairs}
+use Rattle.layout.specs.Extents.{ExtentList, ExtentHead, is_entry, are_sorted, are_apart, is_sound, header_at, extent_at, extents_at, extents_of}
 use Rattle.layout.proofs.file_graph_lemmas.Fields.{bind_some, test_some, guard_some, some_is}
 use Rattle.extent_tree.specs.Normal.{IsRising}
 use Rattle.extent_tree.proofs.Rising.{rising-wider}
@@ -38,14 +38,14 @@ record OneRead (bytes : List ℕ) (x : Extent × List ℕ) : Type 0 where
   entry : entry_in bytes ≡ Some x.0
   rest : x.1 ≡ drop 12 bytes
 
-one_read : (g : Sizes) (s : Space) (bytes : List ℕ) (x : Extent × List ℕ) → extent_at g s bytes ≡ Some x → OneRead bytes x
+one_read : (g : Sizes) (s : Space) (level : ℕ) (bytes : List ℕ) (x : Extent × List ℕ) → extent_at g s level bytes ≡ Some x → OneRead bytes x
 unfolding extent_at
-one_read g s bytes x e =
+one_read g s level bytes x e =
     let l = bind_some (number_at 4 bytes) _ x e in
     let n = bind_some (number_at 4 l.0.1) _ x l.2 in
     let p = bind_some (number_at 4 n.0.1) _ x n.2 in
     let read : Extent = record { logical = l.0.0; length = n.0.0; place = p.0.0 } in
-    let t = test_some (is_extent g s read) (read, p.0.1) x p.2 in
+    let t = test_some (is_entry g s level read) (read, p.0.1) x p.2 in
     let first = three_numbers bytes l.0 n.0 p.0 l.1 n.1 p.1 in
     let one : l.0.1 ≡ drop 4 bytes = number_rest bytes l.0 l.1 in
     let two : n.0.1 ≡ drop 8 bytes = number_rest l.0.1 n.0 n.1 ∙ ap (drop 4) one ∙ drop-drop 4 4 bytes in
@@ -60,15 +60,15 @@ record AllRead (n : ℕ) (bytes : List ℕ) (es : List Extent) : Type 0 where
   long : length es ≡ n
   each : (i : ℕ) (d : Extent) → i < n → entry_in (drop (12 * i) bytes) ≡ Some (get_or es i d)
 
-all_read : (g : Sizes) (s : Space) (n : ℕ) (bytes : List ℕ) (x : List Extent × List ℕ) → items_at (extent_at g s) n bytes ≡ Some x → AllRead n bytes x.0
+all_read : (g : Sizes) (s : Space) (level n : ℕ) (bytes : List ℕ) (x : List Extent × List ℕ) → items_at (extent_at g s level) n bytes ≡ Some x → AllRead n bytes x.0
 unfolding items_at
-all_read g s zero bytes x e = subst (λ (y : List Extent × List ℕ). AllRead zero bytes y.0) (some_is ([], bytes) x e) (record { long = refl; each = λ i d lt. absurd (omega (arith, lt)) })
-all_read g s (suc n) bytes x e =
-    let a = bind_some (extent_at g s bytes) _ x e in
-    let b = bind_some (items_at (extent_at g s) n a.0.1) _ x a.2 in
+all_read g s level zero bytes x e = subst (λ (y : List Extent × List ℕ). AllRead zero bytes y.0) (some_is ([], bytes) x e) (record { long = refl; each = λ i d lt. absurd (omega (arith, lt)) })
+all_read g s level (suc n) bytes x e =
+    let a = bind_some (extent_at g s level bytes) _ x e in
+    let b = bind_some (items_at (extent_at g s level) n a.0.1) _ x a.2 in
     let made : List Extent × List ℕ = (a.0.0 ∷ b.0.0, b.0.1) in
-    let one = one_read g s bytes a.0 a.1 in
-    let others = all_read g s n a.0.1 b.0 b.1 in
+    let one = one_read g s level bytes a.0 a.1 in
+    let others = all_read g s level n a.0.1 b.0 b.1 in
     subst (λ (y : List Extent × List ℕ). AllRead (suc n) bytes y.0) (some_is made x b.2) (record { long = ap suc others.long; each = at bytes a.0.0 a.0.1 b.0.0 n one.entry one.rest others.each })
   where
     at : (bytes : List ℕ) (x : Extent) (behind : List ℕ) (xs : List Extent) (n : ℕ) → entry_in bytes ≡ Some x → behind ≡ drop 12 bytes → ((i : ℕ) (d : Extent) → i < n → entry_in (drop (12 * i) behind) ≡ Some (get_or xs i d))
@@ -109,15 +109,15 @@ head_read bytes h e =
       rest = sym (ap (λ (y : ExtentHead × List ℕ). y.1) t.1) ∙ four;
     }
 
-passes : (g : Sizes) (s : Space) (bytes : List ℕ) (x : Extent × List ℕ) → extent_at g s bytes ≡ Some x → is_extent g s x.0 ≡ true
+passes : (g : Sizes) (s : Space) (level : ℕ) (bytes : List ℕ) (x : Extent × List ℕ) → extent_at g s level bytes ≡ Some x → is_entry g s level x.0 ≡ true
 unfolding extent_at
-passes g s bytes x e =
+passes g s level bytes x e =
     let l = bind_some (number_at 4 bytes) _ x e in
     let n = bind_some (number_at 4 l.0.1) _ x l.2 in
     let p = bind_some (number_at 4 n.0.1) _ x n.2 in
     let read : Extent = record { logical = l.0.0; length = n.0.0; place = p.0.0 } in
-    let t = test_some (is_extent g s read) (read, p.0.1) x p.2 in
-    subst (λ (y : Extent × List ℕ). is_extent g s y.0 ≡ true) t.1 t.0
+    let t = test_some (is_entry g s level read) (read, p.0.1) x p.2 in
+    subst (λ (y : Extent × List ℕ). is_entry g s level y.0 ≡ true) t.1 t.0
 
 pub block_read : (g : Sizes) (s : Space) (bytes : List ℕ) (v : ExtentList) → extents_of g s bytes ≡ Some v → IsRead bytes v.extents
 unfolding extents_of extents_at
@@ -128,16 +128,17 @@ block_read g s bytes v e =
     let x = bind_some (extents_at g s bytes) _ w.0 long.1 in
     let zeros = test_some (are_zero x.0.1) x.0.0 w.0 x.2 in
     let h = bind_some (header_at bytes) _ x.0 x.1 in
-    let i = bind_some (items_at (extent_at g s) h.0.0.count h.0.1) _ x.0 h.2 in
+    let level = h.0.0.level in
+    let i = bind_some (items_at (extent_at g s level) h.0.0.count h.0.1) _ x.0 h.2 in
     let made : ExtentList × List ℕ = (record { owner = h.0.0.owner; level = h.0.0.level; extents = i.0.0 }, i.0.1) in
     let head = head_read bytes h.0 h.1 in
-    let all = all_read g s h.0.0.count h.0.1 i.0 i.1 in
+    let all = all_read g s level h.0.0.count h.0.1 i.0 i.1 in
     let listed : i.0.0 ≡ v.extents = ap (λ (y : ExtentList × List ℕ). y.0.extents) (some_is made x.0 i.2) ∙ ap (λ (y : ExtentList). y.extents) (zeros.1 ∙ t.1) in
-    let fits : list_all (is_extent g s) i.0.0 ≡ true = items_pass (extent_at g s) (is_extent g s) (passes g s) h.0.0.count h.0.1 i.0 i.1 in
+    let fits : list_all (is_entry g s level) i.0.0 ≡ true = items_pass (extent_at g s level) (is_entry g s level) (passes g s level) h.0.0.count h.0.1 i.0 i.1 in
     let sound : is_sound v ≡ true = subst (λ (y : ExtentList). is_sound y ≡ true) t.1 t.0 in
-    let r = and_parts (is_inode v.owner && (v.level == 0) && are_sorted 0 v.extents) (places_apart v.extents) sound in
-    let u = and_parts (is_inode v.owner && (v.level == 0)) (are_sorted 0 v.extents) r.0 in
-    let rising = sorted-rising g s 0 v.extents u.1 (subst (λ (es : List Extent). list_all (is_extent g s) es ≡ true) listed fits) in
+    let r = and_parts (is_inode v.owner && nat_le v.level 1 && are_sorted 0 v.extents) (all_pairs (are_apart v.level) v.extents) sound in
+    let u = and_parts (is_inode v.owner && nat_le v.level 1) (are_sorted 0 v.extents) r.0 in
+    let rising = sorted-rising g s level 0 v.extents u.1 (subst (λ (es : List Extent). list_all (is_entry g s level) es ≡ true) listed fits) in
     subst (IsRead bytes) listed (record {
       count = head.count ∙ ap Some (sym all.long);
       each = λ k d lt. ap entry_in (sym (drop-drop (12 * k) 16 bytes) ∙ ap (drop (12 * k)) (sym head.rest)) ∙ all.each k d (omega (arith, lt, all.long));

@@ -1,5 +1,5 @@
 -- Lists in normal form, put together.
-use Rattle.std.proofs.Common.{◌≡◌, ◌≤◌, ◌<◌, ℕ, suc, ◌+◌, ◌-◌, ◌^◌, List, [], ◌∷◌, ◌++◌, length, get_or, take, set, sym, ap, ◌∙◌, refl, arith, subst, Option, Some, None, append_assoc}
+use Rattle.std.proofs.Common.{◌≡◌, ◌≤◌, ◌<◌, ℕ, suc, ◌+◌, ◌-◌, ◌^◌, List, [], ◌∷◌, ◌++◌, length, get_or, take, set, sym, ap, ◌∙◌, refl, arith, subst, Option, Some, None, append_assoc, length-append}
 use Rattle.std.specs.List.{AllByRecursion}
 use Rattle.std.specs.Option.{option_or}
 use Rattle.std.proofs.lemmas.Option.{none-some, same_Some}
@@ -82,6 +82,7 @@ joins-more mid end source acc tail new first second = record {
   places = second.places;
   start = second.start ∙ start-append acc tail ∙ ap (λ o. option_or o (start_of tail)) first.start ∙ sym (start-append source tail);
   stop = second.stop ∙ stop-append acc tail ∙ ap (λ o. option_or (stop_of tail) o) first.stop ∙ sym (stop-append source tail);
+  few = omega (arith, second.few, first.few, length-append acc tail, length-append source tail);
 }
 
 pub joins-wider : (end end' : ℕ) (source new : List Extent) → Joins end source new → end ≤ end' → Joins end' source new
@@ -92,6 +93,7 @@ joins-wider end end' source new joins le = record {
   places = joins.places;
   start = joins.start;
   stop = joins.stop;
+  few = joins.few;
 }
 
 pub joins-none : (end : ℕ) (es : List Extent) → IsRising 0 end es → NoneGoesOn es → PlacesFit es → Joins end (es ++ []) es
@@ -104,6 +106,7 @@ joins-none end es rising apart fit =
       places = fit;
       start = ap start_of (sym whole);
       stop = ap stop_of (sym whole);
+      few = omega (arith, ap length whole);
     }
 
 -- an extent that does not go on where the last ends is put behind it
@@ -117,6 +120,7 @@ joins-pushed es next some fits rising apart fit seam =
       places = all-append P es (next ∷ []) fit (fits, tt);
       start = refl;
       stop = refl;
+      few = omega arith;
     }
 
 -- an extent that goes on where the last ends becomes a part of it
@@ -138,6 +142,7 @@ joins-longer front last next some fits rising apart fit goes_on place_on =
       places = all-append P front (long ∷ []) (all-left P front (last ∷ []) fit) (omega (arith, fits, place_on), tt);
       start = start-append front (long ∷ []) ∙ sym (ap start_of whole ∙ start-append front (last ∷ next ∷ []));
       stop = stop-append front (long ∷ []) ∙ ap (λ o. option_or o (stop_of front)) ends ∙ sym (ap stop_of whole ∙ stop-append front (last ∷ next ∷ []));
+      few = omega (arith, length-append front (long ∷ []), length-append front (last ∷ next ∷ []), ap length whole);
     }
 
 -- ---- the last extent

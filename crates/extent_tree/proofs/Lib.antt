@@ -1,3 +1,5 @@
+pub mod Ranges
+pub mod Homes
 pub mod Choices
 pub mod Trees
 pub mod Rewrites
@@ -17,3 +19,4 @@ pub mod Runs
 pub mod GivenUp
 pub mod Moved
 pub mod EntryReads
+pub mod TreeLaws

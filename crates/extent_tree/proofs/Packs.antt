@@ -1,5 +1,5 @@
 -- Nodes of some entries.
-use Rattle.std.proofs.Common.{◌≡◌, ◌≤◌, ◌<◌, ℕ, zero, suc, ◌+◌, List, [], ◌∷◌, ◌++◌, length, get_or, take, sym, ap, ◌∙◌, arith, append_assoc}
+use Rattle.std.proofs.Common.{◌≡◌, ◌≤◌, ◌<◌, ℕ, zero, suc, ◌+◌, ◌*◌, List, [], ◌∷◌, ◌++◌, length, get_or, take, sym, ap, ◌∙◌, arith, append_assoc, length-append}
 use Rattle.std.specs.Prelude.{◌==◌, Bool, true, false}
 use Rattle.std.proofs.lemmas.Bool.{both_ways, eqb-true}
 use Rattle.std.proofs.lemmas.List.{append-nil, take_more, length-take-le, nil_from_length}
@@ -52,6 +52,21 @@ packed-last ns n entries parts = flat-append ns (n ∷ []) ∙ ap (λ l. flat ns
 
 pub packed-all : (ns : List (List Extent)) (rest entries : List Extent) → length rest ≡ 0 → flat ns ++ rest ≡ entries → flat ns ≡ entries
 packed-all ns rest entries none parts = sym (ap (λ l. flat ns ++ l) (nil_from_length rest none) ∙ append-nil (flat ns)) ∙ parts
+
+-- ---- how many nodes
+
+one-more : (k n : ℕ) → k * (n + 1) ≡ k * n + k
+one-more k n = omega arith
+
+pub pushed-many : (k : ℕ) (ns : List (List Extent)) (x : List Extent) (rest back all : ℕ) → k * length ns + rest ≡ all → back + k ≡ rest → k * length (ns ++ x ∷ []) + back ≡ all
+pushed-many k ns x rest back all many split =
+    let long : k * length (ns ++ x ∷ []) ≡ k * length ns + k = ap (λ m. k * m) (length-append ns (x ∷ [])) ∙ one-more k (length ns) in
+    omega (arith, long, many, split)
+
+pub packed-more : (k : ℕ) (ns : List (List Extent)) (x : List Extent) (rest all : ℕ) → k * length ns + rest ≡ all → k * length (ns ++ x ∷ []) ≤ all + k
+packed-more k ns x rest all many =
+    let long : k * length (ns ++ x ∷ []) ≡ k * length ns + k = ap (λ m. k * m) (length-append ns (x ∷ [])) ∙ one-more k (length ns) in
+    omega (arith, long, many)
 
 -- ---- what a test tells of a list's length
 

@@ -1,24 +1,23 @@
 -- A level of which some nodes are rewritten.
-use Rattle.std.proofs.Common.{◌≡◌, ◌≤◌, ◌<◌, inl, inr, ℕ, ◌+◌, ◌-◌, ◌/◌, ◌^◌, List, [], ◌++◌, length, take, drop, sym, ap, ◌∙◌, arith, subst, append_assoc, length-append, Option}
-use Rattle.std.specs.Prelude.{slice_range}
+use Rattle.std.proofs.Common.{◌≡◌, ◌≤◌, ◌<◌, inl, inr, ℕ, ◌+◌, ◌-◌, ◌*◌, ◌/◌, ◌^◌, List, [], ◌++◌, length, take, drop, sym, ap, ◌∙◌, arith, subst, append_assoc, length-append}
+use Rattle.std.specs.Prelude.{slice_range, replicate}
 use Rattle.std.specs.List.{AllByRecursion}
 use Rattle.std.proofs.lemmas.Bool.{cases_lt}
-use Rattle.std.proofs.lemmas.List.{append-nil, take-append-drop, drop_all, drop_at, take_at, take-take, take_rest, length-drop}
-use Rattle.std.proofs.Math.Seq.{take-append-add}
+use Rattle.std.proofs.lemmas.List.{append-nil, take-append-drop, drop_all, drop_at, take_at, take-take, take_rest, length-drop, length-take, length-replicate}
+use Rattle.std.proofs.Math.Seq.{take-add, take-append-add}
 use Rattle.std.proofs.lemmas.List.Folds.{drop_split}
 use Rattle.layout.specs.declared.extents.Extent.{Extent}
 use Rattle.extent_tree.specs.Places.{place_of}
-use Rattle.extent_tree.specs.Normal.{IsRising, PlacesFit, IsNormal}
-use Rattle.extent_tree.specs.Changes.{after}
+use Rattle.extent_tree.specs.Normal.{IsRising, PlacesFit, NoneGoesOn, IsMap}
+use Rattle.extent_tree.specs.Changes.{replaced, ArePieces}
 use Rattle.extent_tree.specs.Nodes.{flat, last_end, summaries, AreFilled, HaveFrom}
 use Rattle.extent_tree.proofs.Joined.{all-left, all-right, all-append}
 use Rattle.extent_tree.proofs.Rising.{rising-wider, rising-left, rising-right}
 use Rattle.extent_tree.proofs.Summaries.{flat-append, summaries-append}
-use Rattle.extent_tree.proofs.Splices.{Spliced, spliced-normal, spliced-at}
-use Rattle.extent_tree.proofs.Levels.{before-less, behind-less}
+use Rattle.extent_tree.proofs.Splices.{Spliced, spliced-map, spliced-apart, spliced-at}
 use Rattle.extent_tree.proofs.Trees.{nodes-few}
 use Rattle.extent_tree.specs.Tree.{IsLevel, IsNeeded}
-use Rattle.extent_tree.specs.LeafChoice.{Touched, Remade, IsEnough}
+use Rattle.extent_tree.specs.LeafChoice.{IsChosen}
 
 -- ---- three pieces of a level
 
@@ -53,39 +52,61 @@ piece-fits from to ns le fit =
 -- ---- the leaves once some are rewritten
 
 -- what a change comes to: the leaves that stay, and the nodes in place of the others
-pub record Rewritten (width first count : ℕ) (place : Option ℕ) (from to : ℕ) (old packed : List (List Extent)) (entries : List Extent) : Type 0 where
+pub record Rewritten (width first count : ℕ) (pieces : List Extent) (from to : ℕ) (old packed : List (List Extent)) (entries : List Extent) : Type 0 where
   pub fits : first + count < 2 ^ 32
-  pub touched : Touched first count from to old
-  pub made : Remade first count place from to old entries
-  pub enough : IsEnough width from to old entries
+  pub are : ArePieces first count pieces
+  pub chosen : IsChosen width first count pieces from to old entries
   pub flat_is : flat packed ≡ entries
   pub one : length entries ≤ width → length packed ≤ 1
   pub filled : AreFilled packed
   pub most : HaveFrom 0 width packed
   pub quarter : width / 4 ≤ length entries → HaveFrom (width / 4) width packed
+  pub few : (width - width / 4) * length packed ≤ length entries + (width - width / 4)
 
-spliced : (width first count : ℕ) (place : Option ℕ) (from to : ℕ) (old packed : List (List Extent)) (entries : List Extent) → IsNormal (flat old) → Rewritten width first count place from to old packed entries → Spliced first count place (flat (take from old)) (flat (slice_range old from to)) (flat (drop to old)) entries
-spliced width first count place from to old packed entries normal r = record {
+-- leaves in three parts, of which the last begins where the first ends or behind it
+take-two : {X : Type 0} (from low : ℕ) (xs : List X) → from ≤ low → take low xs ≡ take from xs ++ slice_range xs from low
+take-two from low xs le =
+    let parts : from + (low - from) ≡ low = omega (arith, le) in
+    ap (λ k. take k xs) (sym parts) ∙ take-add from (low - from) xs
+
+spliced : (width first count : ℕ) (pieces : List Extent) (from to : ℕ) (old packed : List (List Extent)) (entries : List Extent) → IsMap (flat old) → (r : Rewritten width first count pieces from to old packed entries)
+    → Spliced first count pieces (flat (take r.chosen.low old)) (flat (slice_range old r.chosen.low r.chosen.high)) (flat (drop r.chosen.high old)) r.chosen.some
+spliced width first count pieces from to old packed entries map r = record {
   fits = r.fits;
-  normal = subst IsNormal (flat-pieces from to old r.touched.order) normal;
-  before = r.touched.before;
-  behind = r.touched.behind;
-  made = r.made;
+  are = r.are;
+  spells = subst IsMap (flat-pieces r.chosen.low r.chosen.high old r.chosen.touched.order) map;
+  before = r.chosen.touched.before;
+  behind = r.chosen.touched.behind;
+  made = r.chosen.made;
 }
 
-flat-new : (from to : ℕ) (old packed : List (List Extent)) (entries : List Extent) → flat packed ≡ entries → flat (take from old ++ (packed ++ drop to old)) ≡ flat (take from old) ++ (entries ++ flat (drop to old))
-flat-new from to old packed entries is = flat-three (take from old) packed (drop to old) ∙ ap (λ l. flat (take from old) ++ (l ++ flat (drop to old))) is
+flat-new : (width first count : ℕ) (pieces : List Extent) (from to : ℕ) (old packed : List (List Extent)) (entries : List Extent) → (r : Rewritten width first count pieces from to old packed entries)
+    → flat (take from old ++ (packed ++ drop to old)) ≡ flat (take r.chosen.low old) ++ (r.chosen.some ++ flat (drop r.chosen.high old))
+flat-new width first count pieces from to old packed entries r =
+    let c = r.chosen in
+    let beside = flat (slice_range old from c.low) in
+    let behind = flat (slice_range old c.high to) in
+    let front : flat (take c.low old) ≡ flat (take from old) ++ beside = ap flat (take-two from c.low old c.less) ∙ flat-append (take from old) (slice_range old from c.low) in
+    let back : flat (drop c.high old) ≡ behind ++ flat (drop to old) = ap flat (drop_split old c.high to c.more) ∙ flat-append (slice_range old c.high to) (drop to old) in
+    let middle : flat packed ≡ beside ++ (c.some ++ behind) = r.flat_is ∙ c.parts in
+    let shifted : flat (take from old) ++ ((beside ++ (c.some ++ behind)) ++ flat (drop to old)) ≡ (flat (take from old) ++ beside) ++ (c.some ++ (behind ++ flat (drop to old))) = simp append_assoc in
+    flat-three (take from old) packed (drop to old) ∙ ap (λ l. flat (take from old) ++ (l ++ flat (drop to old))) middle ∙ shifted ∙ sym (λ i. front i ++ (c.some ++ back i))
 
-pub rewritten-normal : (width first count : ℕ) (place : Option ℕ) (from to : ℕ) (old packed : List (List Extent)) (entries : List Extent) → IsNormal (flat old) → Rewritten width first count place from to old packed entries → IsNormal (flat (take from old ++ (packed ++ drop to old)))
-rewritten-normal width first count place from to old packed entries normal r =
-    subst IsNormal (sym (flat-new from to old packed entries r.flat_is))
-    (spliced-normal first count place (flat (take from old)) (flat (slice_range old from to)) (flat (drop to old)) entries (spliced width first count place from to old packed entries normal r))
+pub rewritten-map : (width first count : ℕ) (pieces : List Extent) (from to : ℕ) (old packed : List (List Extent)) (entries : List Extent) → IsMap (flat old) → Rewritten width first count pieces from to old packed entries → IsMap (flat (take from old ++ (packed ++ drop to old)))
+rewritten-map width first count pieces from to old packed entries map r =
+    subst IsMap (sym (flat-new width first count pieces from to old packed entries r))
+    (spliced-map first count pieces _ _ _ r.chosen.some (spliced width first count pieces from to old packed entries map r))
 
-pub rewritten-at : (width first count : ℕ) (place : Option ℕ) (from to : ℕ) (old packed : List (List Extent)) (entries : List Extent) → IsNormal (flat old) → Rewritten width first count place from to old packed entries → (b : ℕ) → place_of (flat (take from old ++ (packed ++ drop to old))) b ≡ after first count place (flat old) b
-rewritten-at width first count place from to old packed entries normal r b =
-    ap (λ l. place_of l b) (flat-new from to old packed entries r.flat_is)
-    ∙ spliced-at first count place (flat (take from old)) (flat (slice_range old from to)) (flat (drop to old)) entries (spliced width first count place from to old packed entries normal r) b
-    ∙ ap (λ l. after first count place l b) (sym (flat-pieces from to old r.touched.order))
+pub rewritten-apart : (width first count : ℕ) (pieces : List Extent) (from to : ℕ) (old packed : List (List Extent)) (entries : List Extent) → IsMap (flat old) → Rewritten width first count pieces from to old packed entries → NoneGoesOn (flat old) → NoneGoesOn (flat (take from old ++ (packed ++ drop to old)))
+rewritten-apart width first count pieces from to old packed entries map r apart =
+    subst NoneGoesOn (sym (flat-new width first count pieces from to old packed entries r))
+    (spliced-apart first count pieces _ _ _ r.chosen.some (spliced width first count pieces from to old packed entries map r) (subst NoneGoesOn (flat-pieces r.chosen.low r.chosen.high old r.chosen.touched.order) apart))
+
+pub rewritten-at : (width first count : ℕ) (pieces : List Extent) (from to : ℕ) (old packed : List (List Extent)) (entries : List Extent) → IsMap (flat old) → Rewritten width first count pieces from to old packed entries → (b : ℕ) → place_of (flat (take from old ++ (packed ++ drop to old))) b ≡ replaced first count pieces (flat old) b
+rewritten-at width first count pieces from to old packed entries map r b =
+    ap (λ l. place_of l b) (flat-new width first count pieces from to old packed entries r)
+    ∙ spliced-at first count pieces _ _ _ r.chosen.some (spliced width first count pieces from to old packed entries map r) b
+    ∙ ap (λ l. replaced first count pieces l b) (sym (flat-pieces r.chosen.low r.chosen.high old r.chosen.touched.order))
 
 -- all leaves are rewritten
 whole : (from to : ℕ) (old packed : List (List Extent)) → from ≡ 0 → to ≡ length old → take from old ++ (packed ++ drop to old) ≡ packed
@@ -103,54 +124,40 @@ packed-level width packed entries one filled most quarter = record {
   ]);
 }
 
-whole-level : (width first count : ℕ) (place : Option ℕ) (from to : ℕ) (old packed : List (List Extent)) (entries : List Extent) → Rewritten width first count place from to old packed entries → IsLevel width packed
-whole-level width first count place from to old packed entries r = packed-level width packed entries r.one r.filled r.most r.quarter
+whole-level : (width first count : ℕ) (pieces : List Extent) (from to : ℕ) (old packed : List (List Extent)) (entries : List Extent) → Rewritten width first count pieces from to old packed entries → IsLevel width packed
+whole-level width first count pieces from to old packed entries r = packed-level width packed entries r.one r.filled r.most r.quarter
 
-pub rewritten-level : (width first count : ℕ) (place : Option ℕ) (from to : ℕ) (old packed : List (List Extent)) (entries : List Extent) → IsLevel width old → Rewritten width first count place from to old packed entries → IsLevel width (take from old ++ (packed ++ drop to old))
-rewritten-level width first count place from to old packed entries level r = elim (cases_lt 1 (length old)) [
-  | inl several ↦ elim r.enough [
+-- a tree of a single leaf is rewritten whole
+pub single-whole : (width first count : ℕ) (pieces : List Extent) (from to : ℕ) (old : List (List Extent)) (entries : List Extent) → IsChosen width first count pieces from to old entries → length old ≤ 1 → (from ≡ 0) × (to ≡ length old)
+single-whole width first count pieces from to old entries c single =
+    let all = c.touched.single single in
+    (omega (arith, c.less, all.0), omega (arith, c.more, all.1, c.within))
+
+pub rewritten-level : (width first count : ℕ) (pieces : List Extent) (from to : ℕ) (old packed : List (List Extent)) (entries : List Extent) → IsLevel width old → Rewritten width first count pieces from to old packed entries → IsLevel width (take from old ++ (packed ++ drop to old))
+rewritten-level width first count pieces from to old packed entries level r = elim (cases_lt 1 (length old)) [
+  | inl several ↦ elim r.chosen.enough [
     | inl enough ↦ record {
       filled = three (λ n. 0 < length n) level.filled r.filled;
       most = three (λ n. (0 ≤ length n) × (length n ≤ width)) level.most r.most;
       quarter = λ _. three (λ n. (width / 4 ≤ length n) × (length n ≤ width)) (level.quarter several) (r.quarter enough);
     }
-    | inr all ↦ subst (IsLevel width) (sym (whole from to old packed all.0 all.1)) (whole-level width first count place from to old packed entries r)
+    | inr all ↦ subst (IsLevel width) (sym (whole from to old packed all.0 all.1)) (whole-level width first count pieces from to old packed entries r)
   ]
-  | inr single ↦ let all = r.touched.single single in subst (IsLevel width) (sym (whole from to old packed all.0 all.1)) (whole-level width first count place from to old packed entries r)
+  | inr single ↦ let all = single-whole width first count pieces from to old entries r.chosen single in subst (IsLevel width) (sym (whole from to old packed all.0 all.1)) (whole-level width first count pieces from to old packed entries r)
 ]
   where
     three : (P : List Extent → Type 0) → AllByRecursion P old → AllByRecursion P packed → AllByRecursion P (take from old ++ (packed ++ drop to old))
     three P all new = all-append P (take from old) (packed ++ drop to old) (all-take P from old all) (all-append P packed (drop to old) new (all-drop P to old all))
 
 -- a single leaf becomes several only where one could not hold the entries
-pub rewritten-needed : (width first count : ℕ) (place : Option ℕ) (from to : ℕ) (old packed : List (List Extent)) (entries : List Extent) → Rewritten width first count place from to old packed entries → length old ≤ 1 → IsNeeded width (take from old ++ (packed ++ drop to old))
-rewritten-needed width first count place from to old packed entries r single =
-    let all = r.touched.single single in
+pub rewritten-needed : (width first count : ℕ) (pieces : List Extent) (from to : ℕ) (old packed : List (List Extent)) (entries : List Extent) → Rewritten width first count pieces from to old packed entries → length old ≤ 1 → IsNeeded width (take from old ++ (packed ++ drop to old))
+rewritten-needed width first count pieces from to old packed entries r single =
+    let all = single-whole width first count pieces from to old entries r.chosen single in
     subst (IsNeeded width) (sym (whole from to old packed all.0 all.1))
     (λ several. elim (cases_lt width (length entries)) [
       | inl more ↦ omega (arith, more, ap length r.flat_is)
       | inr few ↦ absurd (omega (arith, r.one few, several))
     ])
-
--- ---- more leaves are taken
-
-pub touched-wider : (first count from to from' to' : ℕ) (ns : List (List Extent)) → Touched first count from to ns → from' ≤ from → to ≤ to' → to' ≤ length ns → Touched first count from' to' ns
-touched-wider first count from to from' to' ns t less more within = record {
-  order = omega (arith, t.order, less, more);
-  within = within;
-  before = before-less first from from' ns less t.before;
-  behind = behind-less (first + count) to to' ns more t.behind;
-  single = λ single. let all = t.single single in (omega (arith, all.0, less), omega (arith, all.1, more, within));
-}
-
-pub wider-within : (from to from' to' n : ℕ) → ((from ≡ 0) × (to ≡ n) → ⊥) → to ≤ n → from' ≤ from → to' + from ≡ to + from' + 1 → (0 < from → to' ≡ to) → to' ≤ n
-wider-within from to from' to' n not_all within less one end = elim (cases_lt 0 from) [
-  | inl some ↦ omega (arith, end some, within)
-  | inr none ↦ elim (cases_lt to n) [
-    | inl room ↦ omega (arith, one, none, less, room)
-    | inr full ↦ absurd (not_all (omega (arith, none), omega (arith, full, within)))
-  ]
-]
 
 -- ---- three slices of nodes
 
@@ -188,22 +195,32 @@ turned xs more from to back order within is =
     ∙ (λ i. drop_at d (take from xs ++ more) back long i ++ take_at d (take from xs ++ more) back long i)
     ∙ append_assoc (take from xs) more d
 
+-- the new leaves are as many as their blocks
+pub spliced-long : (from to : ℕ) (homes new : List ℕ) (old packed leaves : List (List Extent)) → new ≡ take from homes ++ (replicate (length packed) 0 ++ drop to homes) → leaves ≡ take from old ++ (packed ++ drop to old) → length homes ≡ length old → length new ≡ length leaves
+spliced-long from to homes new old packed leaves new_is leaves_are same =
+    let a = ap length new_is ∙ length-append (take from homes) (replicate (length packed) 0 ++ drop to homes) in
+    let b = length-append (replicate (length packed) 0) (drop to homes) in
+    let n = ap length leaves_are ∙ length-append (take from old) (packed ++ drop to old) in
+    let m = length-append packed (drop to old) in
+    omega (arith, a, b, n, m, same, length-replicate {A = ℕ} (length packed) 0, length-take from homes, length-take from old, length-drop to homes, length-drop to old)
+
 -- ---- what the calls of a change tell, put together
 
-pub told : (width first count : ℕ) (place : Option ℕ) (from to : ℕ) (old seen packed : List (List Extent)) (entries given : List Extent) → seen ≡ old → given ≡ entries → first + count < 2 ^ 32
-    → Touched first count from to seen → Remade first count place from to seen entries → IsEnough width from to seen entries
+pub told : (width first count : ℕ) (pieces : List Extent) (from to : ℕ) (old seen packed : List (List Extent)) (entries given : List Extent) → seen ≡ old → given ≡ entries → first + count < 2 ^ 32
+    → ArePieces first count pieces → IsChosen width first count pieces from to seen entries
     → flat packed ≡ given → (length given ≤ width → length packed ≤ 1) → AreFilled packed → HaveFrom 0 width packed → (width / 4 ≤ length given → HaveFrom (width / 4) width packed)
-    → Rewritten width first count place from to old packed entries
-told width first count place from to old seen packed entries given is_old is_entries fits touched made enough flat_is one filled most quarter = record {
+    → (width - width / 4) * length packed ≤ length given + (width - width / 4)
+    → Rewritten width first count pieces from to old packed entries
+told width first count pieces from to old seen packed entries given is_old is_entries fits are chosen flat_is one filled most quarter few = record {
   fits = fits;
-  touched = subst (Touched first count from to) is_old touched;
-  made = subst (λ l. Remade first count place from to l entries) is_old made;
-  enough = subst (λ l. IsEnough width from to l entries) is_old enough;
+  are = are;
+  chosen = subst (λ l. IsChosen width first count pieces from to l entries) is_old chosen;
   flat_is = flat_is ∙ is_entries;
   one = subst (λ l. length l ≤ width → length packed ≤ 1) is_entries one;
   filled = filled;
   most = most;
   quarter = subst (λ l. width / 4 ≤ length l → HaveFrom (width / 4) width packed) is_entries quarter;
+  few = subst (λ l. (width - width / 4) * length packed ≤ length l + (width - width / 4)) is_entries few;
 }
 
 -- the three slices are the new leaves

@@ -6,7 +6,7 @@ use Rattle.std.specs.List.{list_all}
 use Rattle.std.proofs.lemmas.Bool.{cases_lt, and_from, and_left, and_right, le-leb, lt-ltb, lt-leb, le-ltb, cond-true, cond-false, cases_Bool}
 use Rattle.layout.specs.declared.extents.Extent.{Extent}
 use Rattle.extent_tree.specs.Places.{in_run, has, place_in, extent_with, place_of, end_of}
-use Rattle.extent_tree.specs.Normal.{IsRising, IsNormal}
+use Rattle.extent_tree.specs.Normal.{IsRising, IsMap}
 use Rattle.extent_tree.specs.Changes.{after}
 
 -- each block that is mapped is below a number
@@ -57,8 +57,8 @@ ends_below n low end (e ∷ es) is below =
     and_from (nat_le (end_of e) n) (list_all (λ f. nat_le (end_of f) n) es) (le-leb (end_of e) n (last_below n e es is.1 below)) (ends_below n (e.logical + e.length) end es is.3 (below_rest n e es below))
 
 -- Where nothing lies in all blocks from one on that a normal form may have, none of them lies anywhere.
-pub cut_is : (from : ℕ) (old new : List Extent) → from ≤ 4294967295 → IsNormal new → ((k : ℕ) → place_of new k ≡ after from (4294967295 - from) None old k) → (k : ℕ) → place_of new k ≡ (if nat_le from k then None else place_of old k)
-cut_is from old new few normal is k = elim (cases_lt k from) [
+pub cut_is : (from : ℕ) (old new : List Extent) → from ≤ 4294967295 → IsMap new → ((k : ℕ) → place_of new k ≡ after from (4294967295 - from) None old k) → (k : ℕ) → place_of new k ≡ (if nat_le from k then None else place_of old k)
+cut_is from old new few map is k = elim (cases_lt k from) [
   | inl lt ↦ is k ∙ cond-false (in_run from (4294967295 - from) k) _ _ (and_left (nat_le from k) (nat_lt k (from + (4294967295 - from))) (lt-leb from k lt)) ∙ sym (cond-false (nat_le from k) _ _ (lt-leb from k lt))
   | inr ge ↦ gone ge ∙ sym (cond-true (nat_le from k) _ _ (le-leb from k ge))
 ]
@@ -66,5 +66,5 @@ cut_is from old new few normal is k = elim (cases_lt k from) [
     gone : from ≤ k → place_of new k ≡ None
     gone ge = elim (cases_lt k 4294967295) [
       | inl lt ↦ is k ∙ cond-true (in_run from (4294967295 - from) k) _ _ (and_from (nat_le from k) (nat_lt k (from + (4294967295 - from))) (le-leb from k ge) (lt-ltb k (from + (4294967295 - from)) (omega (arith, lt, few))))
-      | inr past ↦ none_behind 0 4294967295 k new normal.rising past
+      | inr past ↦ none_behind 0 4294967295 k new map.rising past
     ]

@@ -1,8 +1,8 @@
 -- The extents that a block spells are a map, and a map that fits is spelled by a block.
-use Rattle.std.proofs.Common.{◌≡◌, ◌≤◌, ◌<◌, ◌⊎◌, inl, inr, ℕ, ◌+◌, ◌-◌, ◌*◌, ◌&&◌, ◌||◌, List, [], ◌∷◌, length, true, false, Bool, sym, ap, ◌∙◌, refl, arith, subst, Some, None, max}
-use Rattle.std.specs.Prelude.{nat_le, ◌==◌}
+use Rattle.std.proofs.Common.{◌≡◌, ◌≤◌, ◌<◌, inl, inr, ℕ, ◌+◌, ◌-◌, ◌&&◌, ◌||◌, List, [], ◌∷◌, length, true, false, Bool, sym, ap, ◌∙◌, refl, arith, subst, Some, None, max}
+use Rattle.std.specs.Prelude.{nat_le, nat_lt, ◌==◌, if◌then◌else◌}
 use Rattle.std.specs.List.{list_all}
-use Rattle.std.proofs.lemmas.Bool.{cases_Bool, and_parts, and_from, leb-true, leb-false, le-leb, eq-eqb, cases_lt, false≢true}
+use Rattle.std.proofs.lemmas.Bool.{cases_Bool, and_parts, and_from, leb-true, ltb-true, leb-false, le-leb, cases_lt}
 use Rattle.std.proofs.lemmas.Option.{none-some, same_Some}
 use Rattle.tier_device.specs.declared.media.Tier.TheVariants as tiers
 use Rattle.layout.specs.declared.extents.Extent.{Extent}
@@ -10,8 +10,9 @@ use Rattle.layout.specs.declared.extents.TheConstants.{MAX_EXTENTS}
 use Rattle.layout.specs.declared.geometry.Space.{Space}
 use Rattle.layout.specs.declared.geometry.Space.TheVariants as space
 use Rattle.layout.specs.Bytes.{all_pairs}
-use Rattle.layout.specs.Places.{Sizes, IsAllowed, is_inode, is_run, blocks_in, data_first, tier_blocks, node_end}
-use Rattle.layout.specs.Extents.{ExtentList, is_extent, are_sorted, is_apart, places_apart, is_sound, fits_extents}
+use Rattle.layout.specs.Places.{Sizes, IsAllowed, is_inode, is_node, is_run, blocks_in, data_first, tier_blocks, node_end}
+use Rattle.layout.specs.Extents.{ExtentList, is_extent, is_cover, is_entry, are_sorted, is_apart, are_apart, places_apart, is_sound, fits_extents}
+use Rattle.layout.proofs.Limits.{few_blocks}
 use Rattle.extent_tree.specs.Places.{has, place_of}
 use Rattle.extent_tree.specs.Normal.{IsRising, PlacesFit}
 use Rattle.extent_tree.specs.BlockFormat.{LiesWithin, IsOneToOne}
@@ -76,23 +77,48 @@ found-in test (e ∷ es) b p all at =
       | inr out ↦ found-in test es b p each.1 (sym (place-later b e es out) ∙ at)
     ]
 
+-- ---- one entry, at whichever level
+
+record EntryFits (g : Sizes) (s : Space) (e : Extent) : Type 0 where
+  some : 0 < e.length
+  ends : e.logical + e.length ≤ blocks_in s
+  small : IsAllowed g → e.place + e.length < 4294967296
+
+cover-fits : (g : Sizes) (s : Space) (e : Extent) → is_cover g s e ≡ true → EntryFits g s e
+cover-fits g s e h =
+    let p = and_parts (nat_le 1 e.length) (nat_le (e.logical + e.length) (blocks_in s) && is_node g e.place) h in
+    let q = and_parts (nat_le (e.logical + e.length) (blocks_in s)) (is_node g e.place) p.1 in
+    let r = and_parts (nat_le 292 e.place) (nat_lt e.place (node_end g)) q.1 in
+    let ends = leb-true (e.logical + e.length) (blocks_in s) q.0 in
+    let in_pool : e.place < node_end g = ltb-true e.place (node_end g) r.1 in
+    let few = few_blocks s in
+    record { some = leb-true 1 e.length p.0; ends = ends; small = λ allowed. let u = allowed.few_units in omega (arith, ends, in_pool, few, u) }
+
+entry-fits : (g : Sizes) (s : Space) (level : ℕ) (e : Extent) → is_entry g s level e ≡ true → EntryFits g s e
+entry-fits g s level e is = of_level (level == 0) is
+  where
+    of_level : (b : Bool) → (if b then is_extent g s e else is_cover g s e) ≡ true → EntryFits g s e
+    of_level true h =
+        let f = extent-fits g s e h in
+        record { some = f.some; ends = f.ends; small = λ allowed. let few = end-few g s allowed in omega (arith, f.last, few) }
+    of_level false h = cover-fits g s e h
+
 -- ---- from a block to a map
 
-pub sorted-rising : (g : Sizes) (s : Space) (low : ℕ) (es : List Extent) → are_sorted low es ≡ true → list_all (is_extent g s) es ≡ true → IsRising low (blocks_in s) es
-sorted-rising g s low [] sorted each = tt
-sorted-rising g s low (e ∷ es) sorted each =
+pub sorted-rising : (g : Sizes) (s : Space) (level low : ℕ) (es : List Extent) → are_sorted low es ≡ true → list_all (is_entry g s level) es ≡ true → IsRising low (blocks_in s) es
+sorted-rising g s level low [] sorted each = tt
+sorted-rising g s level low (e ∷ es) sorted each =
     let p = and_parts (nat_le low e.logical) (are_sorted (e.logical + e.length) es) sorted in
-    let q = and_parts (is_extent g s e) (list_all (is_extent g s) es) each in
-    let f = extent-fits g s e q.0 in
-    (leb-true low e.logical p.0, f.some, f.ends, sorted-rising g s (e.logical + e.length) es p.1 q.1)
+    let q = and_parts (is_entry g s level e) (list_all (is_entry g s level) es) each in
+    let f = entry-fits g s level e q.0 in
+    (leb-true low e.logical p.0, f.some, f.ends, sorted-rising g s level (e.logical + e.length) es p.1 q.1)
 
-pub each-fit : (g : Sizes) (s : Space) (es : List Extent) → IsAllowed g → list_all (is_extent g s) es ≡ true → PlacesFit es
-each-fit g s [] allowed each = tt
-each-fit g s (e ∷ es) allowed each =
-    let q = and_parts (is_extent g s e) (list_all (is_extent g s) es) each in
-    let f = extent-fits g s e q.0 in
-    let few = end-few g s allowed in
-    (omega (arith, f.last, few), each-fit g s es allowed q.1)
+pub each-fit : (g : Sizes) (s : Space) (level : ℕ) (es : List Extent) → IsAllowed g → list_all (is_entry g s level) es ≡ true → PlacesFit es
+each-fit g s level [] allowed each = tt
+each-fit g s level (e ∷ es) allowed each =
+    let q = and_parts (is_entry g s level e) (list_all (is_entry g s level) es) each in
+    let f = entry-fits g s level e q.0 in
+    (f.small allowed, each-fit g s level es allowed q.1)
 
 pub lies-within : (g : Sizes) (s : Space) (es : List Extent) → list_all (is_extent g s) es ≡ true → LiesWithin g s es
 lies-within g s es each b p at =
@@ -209,20 +235,30 @@ one-apart low end (e ∷ es) is only =
 -- ---- all of them
 
 pub record ListParts (g : Sizes) (s : Space) (v : ExtentList) : Type 0 where
-  pub each : list_all (is_extent g s) v.extents ≡ true
+  pub few : length v.extents ≤ MAX_EXTENTS
+  pub each : list_all (is_entry g s v.level) v.extents ≡ true
+  pub level : v.level ≤ 1
   pub sorted : are_sorted 0 v.extents ≡ true
-  pub apart : places_apart v.extents ≡ true
+  pub apart : all_pairs (are_apart v.level) v.extents ≡ true
 
 pub list-parts : (g : Sizes) (s : Space) (v : ExtentList) → fits_extents g s v ≡ true → ListParts g s v
 list-parts g s v fit =
-    let p = and_parts (nat_le (length v.extents) MAX_EXTENTS && list_all (is_extent g s) v.extents) (is_sound v) fit in
-    let q = and_parts (nat_le (length v.extents) MAX_EXTENTS) (list_all (is_extent g s) v.extents) p.0 in
-    let r = and_parts (is_inode v.owner && (v.level == 0) && are_sorted 0 v.extents) (places_apart v.extents) p.1 in
-    let u = and_parts (is_inode v.owner && (v.level == 0)) (are_sorted 0 v.extents) r.0 in
-    record { each = q.1; sorted = u.1; apart = r.1 }
+    let p = and_parts (nat_le (length v.extents) MAX_EXTENTS && list_all (is_entry g s v.level) v.extents) (is_sound v) fit in
+    let q = and_parts (nat_le (length v.extents) MAX_EXTENTS) (list_all (is_entry g s v.level) v.extents) p.0 in
+    let r = and_parts (is_inode v.owner && nat_le v.level 1 && are_sorted 0 v.extents) (all_pairs (are_apart v.level) v.extents) p.1 in
+    let u = and_parts (is_inode v.owner && nat_le v.level 1) (are_sorted 0 v.extents) r.0 in
+    let w = and_parts (is_inode v.owner) (nat_le v.level 1) u.0 in
+    record { few = leb-true (length v.extents) MAX_EXTENTS q.0; each = q.1; level = leb-true v.level 1 w.1; sorted = u.1; apart = r.1 }
+
+-- of the lowest level
+pub lowest-each : (g : Sizes) (s : Space) (v : ExtentList) → v.level ≡ 0 → ListParts g s v → list_all (is_extent g s) v.extents ≡ true
+lowest-each g s v lowest parts = subst (λ (n : ℕ). list_all (is_entry g s n) v.extents ≡ true) lowest parts.each
+
+pub lowest-apart : (g : Sizes) (s : Space) (v : ExtentList) → v.level ≡ 0 → ListParts g s v → places_apart v.extents ≡ true
+lowest-apart g s v lowest parts = subst (λ (n : ℕ). all_pairs (are_apart n) v.extents ≡ true) lowest parts.apart
 
 pub list-from : (g : Sizes) (s : Space) (owner end : ℕ) (es : List Extent) → is_inode owner ≡ true → length es ≤ MAX_EXTENTS → IsRising 0 end es → LiesWithin g s es → IsOneToOne es → fits_extents g s (record { owner = owner; level = 0; extents = es }) ≡ true
 list-from g s owner end es inode few is lies only =
-    and_from (nat_le (length es) MAX_EXTENTS && list_all (is_extent g s) es) (is_inode owner && (0 == 0) && are_sorted 0 es && places_apart es)
+    and_from (nat_le (length es) MAX_EXTENTS && list_all (is_extent g s) es) (is_inode owner && nat_le 0 1 && are_sorted 0 es && places_apart es)
     (and_from (nat_le (length es) MAX_EXTENTS) (list_all (is_extent g s) es) (le-leb (length es) MAX_EXTENTS few) (within-extents g s 0 end es is lies))
-    (and_from (is_inode owner && (0 == 0) && are_sorted 0 es) (places_apart es) (and_from (is_inode owner && (0 == 0)) (are_sorted 0 es) (and_from (is_inode owner) (0 == 0) inode refl) (rising-sorted 0 end es is)) (one-apart 0 end es is only))
+    (and_from (is_inode owner && nat_le 0 1 && are_sorted 0 es) (places_apart es) (and_from (is_inode owner && nat_le 0 1) (are_sorted 0 es) (and_from (is_inode owner) (nat_le 0 1) inode refl) (rising-sorted 0 end es is)) (one-apart 0 end es is only))

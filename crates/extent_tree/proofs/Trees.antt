@@ -1,5 +1,5 @@
 -- The tree of nodes: how many levels, nodes and entries it has.
-use Rattle.std.proofs.Common.{◌≡◌, ◌≤◌, ◌<◌, inl, inr, ℕ, zero, suc, ◌-◌, ◌*◌, ◌/◌, ◌^◌, List, [], ◌∷◌, length, map, sym, ap, ◌∙◌, refl, arith, subst}
+use Rattle.std.proofs.Common.{◌≡◌, ◌≤◌, ◌<◌, inl, inr, ℕ, zero, suc, ◌+◌, ◌-◌, ◌*◌, ◌/◌, ◌^◌, List, [], ◌∷◌, length, map, sym, ap, ◌∙◌, refl, arith, subst}
 use Rattle.std.specs.Prelude.{slice_index}
 use Rattle.std.proofs.lemmas.Bool.{cases_lt}
 use Rattle.std.proofs.Math.Nat.{mul-le-mul_left, mul-le-mul_right, pow-zero, pow-succ'}
@@ -9,7 +9,7 @@ use Rattle.extent_tree.specs.Nodes.{flat, summaries, AreFilled}
 use Rattle.extent_tree.proofs.Summaries.{length-summaries}
 use Rattle.extent_tree.proofs.Levels.{rising-count, filled-count, least-count, most-count}
 use Rattle.std.proofs.lemmas.List.{length-map}
-use Rattle.extent_tree.specs.Value.{GrownByNeed, StaysOne}
+use Rattle.extent_tree.specs.Value.{ExtentMap, tree_map, GrownByNeed, StaysOne}
 use Rattle.extent_tree.specs.Tree.{IsLevel, IsNeeded, IsTree, IsWidth, counts, level_at}
 
 -- ---- how many nodes
@@ -82,8 +82,8 @@ no-levels : (width : ℕ) (ns : List (List Extent)) (inner : List (List (List Ex
 no-levels width ns [] is none = is
 no-levels width ns (level ∷ higher) is none = absurd (omega (arith, none))
 
-pub grown-by-need : (width : ℕ) (ns ms : List (List Extent)) (inner outer : List (List (List Extent))) → IsTree width ns inner → IsTree width ms outer → (length ns ≤ 1 → IsNeeded width ms) → GrownByNeed width (record { runs = flat ns; levels = counts ns inner; leaves = ns }) (record { runs = flat ms; levels = counts ms outer; leaves = ms })
-grown-by-need width ns ms inner outer old new need more =
+pub grown-by-need : (width : ℕ) (ns ms : List (List Extent)) (hs ls ks rs : List ℕ) (inner outer : List (List (List Extent))) → IsTree width ns inner → IsTree width ms outer → (length ns ≤ 1 → IsNeeded width ms) → GrownByNeed width (tree_map ns hs ls inner) (tree_map ms ks rs outer)
+grown-by-need width ns ms hs ls ks rs inner outer old new need more =
     let levels : List (List (List Extent)) → ℕ = λ l. length (map (λ level. length (flat level)) l) in
     let a : levels inner ≡ length inner = length-map inner (λ level. length (flat level)) in
     let b : levels outer ≡ length outer = length-map outer (λ level. length (flat level)) in
@@ -91,8 +91,8 @@ grown-by-need width ns ms inner outer old new need more =
     subst (λ k. width < slice_index (counts ms outer) k) (sym at)
     (needed-at width (length inner) ms outer new (λ none. need (no-levels width ns inner old none)) (omega (arith, more, a, b)))
 
-pub stays-one : (width : ℕ) (ns ms : List (List Extent)) (inner outer : List (List (List Extent))) → GrownByNeed width (record { runs = flat ns; levels = counts ns inner; leaves = ns }) (record { runs = flat ms; levels = counts ms outer; leaves = ms }) → StaysOne width (record { runs = flat ns; levels = counts ns inner; leaves = ns }) (record { runs = flat ms; levels = counts ms outer; leaves = ms })
-stays-one width ns ms inner outer grown one few = elim (cases_lt 1 (length (counts ms outer))) [
+pub stays-one : (width : ℕ) (ns ms : List (List Extent)) (hs ls ks rs : List ℕ) (inner outer : List (List (List Extent))) → GrownByNeed width (tree_map ns hs ls inner) (tree_map ms ks rs outer) → StaysOne width (tree_map ns hs ls inner) (tree_map ms ks rs outer)
+stays-one width ns ms hs ls ks rs inner outer grown one few = elim (cases_lt 1 (length (counts ms outer))) [
   | inl more ↦
       let first : length (counts ns inner) - 1 ≡ 0 = omega (arith, one) in
       let need : width < slice_index (counts ms outer) 0 = subst (λ k. width < slice_index (counts ms outer) k) first (grown (omega (arith, one, more))) in
@@ -112,9 +112,21 @@ some-above width (suc k) ns (level ∷ higher) is le some =
     let covers = ap length is.1 ∙ length-summaries 0 ns in
     some-above width k level higher is.4 (omega (arith, le)) (omega (arith, covers, is.0))
 
--- levels that stay do not grow
-pub grown-same : (width : ℕ) (ns ms : List (List Extent)) (inner : List (List (List Extent))) → GrownByNeed width (record { runs = flat ns; levels = counts ns inner; leaves = ns }) (record { runs = flat ms; levels = counts ms inner; leaves = ms })
-grown-same width ns ms inner more = absurd (omega (arith, more))
+-- a tree that stays does not grow, and stays one
+pub grown-same : (width : ℕ) (old new : ExtentMap) → new ≡ old → GrownByNeed width old new
+grown-same width old new same more = absurd (omega (arith, more, ap (λ (t : ExtentMap). length t.levels) same))
 
-pub one-same : (width : ℕ) (ns ms : List (List Extent)) (inner : List (List (List Extent))) → StaysOne width (record { runs = flat ns; levels = counts ns inner; leaves = ns }) (record { runs = flat ms; levels = counts ms inner; leaves = ms })
-one-same width ns ms inner one few = one
+pub one-same : (width : ℕ) (old new : ExtentMap) → new ≡ old → StaysOne width old new
+one-same width old new same one few = ap (λ (t : ExtentMap). length t.levels) same ∙ one
+
+-- a third level stands above more leaves than a node has entries
+pub third-level : (width : ℕ) (ns : List (List Extent)) (inner : List (List (List Extent))) → IsLevel width ns → IsTree width ns inner → 1 < length inner → (width / 4) * (width + 1) ≤ length (flat ns)
+third-level width ns [] level tree more = absurd (omega (arith, more))
+third-level width ns (a ∷ []) level tree more = absurd (omega (arith, more))
+third-level width ns (a ∷ b ∷ rest) level tree more =
+    let many : width < length (flat a) = tree.3 tree.4.0 in
+    let covered : length (flat a) ≡ length ns = covered-count ns a tree.1 in
+    let wider : width + 1 ≤ length ns = omega (arith, many, covered) in
+    let all : (width / 4) * length ns ≤ length (flat ns) = least-count (width / 4) width ns (level.quarter tree.0) in
+    let part : (width / 4) * (width + 1) ≤ (width / 4) * length ns = mul-le-mul_left (width / 4) wider in
+    omega (arith, all, part)

@@ -9,3 +9,4 @@ pub mod Nodes
 pub mod BlockFormat
 pub mod Map
 pub mod Entries
+pub mod Trees

@@ -1,5 +1,5 @@
 -- Lists of extents in normal form.
-use Rattle.std.specs.Prelude.{◌≡◌, ◌<◌, ◌≤◌, ◌+◌, ◌^◌, ℕ, List, [], ◌∷◌, ◌++◌, Option, Some, None}
+use Rattle.std.specs.Prelude.{◌≡◌, ◌<◌, ◌≤◌, ◌+◌, ◌^◌, ℕ, List, [], ◌∷◌, ◌++◌, length, Option, Some, None}
 use Rattle.std.specs.List.{AllByRecursion}
 use Rattle.layout.specs.declared.extents.Extent.{Extent}
 use Rattle.extent_tree.specs.Places.{SamePlaces}
@@ -38,6 +38,11 @@ NoneGoesOn (e ∷ es) = (Meet (e ∷ []) es → ⊥) × NoneGoesOn es
 abbrev pub PlacesFit : List Extent → Type 0
 PlacesFit es = AllByRecursion (λ e. e.place + e.length < 2 ^ 32) es
 
+-- extents of numbers of 32 bits that rise
+pub record IsMap (es : List Extent) : Type 0 where
+  pub rising : IsRising 0 4294967295 es
+  pub places : PlacesFit es
+
 -- extents of numbers of 32 bits that rise, and of which none goes on where the one before ends
 pub record IsNormal (es : List Extent) : Type 0 where
   pub rising : IsRising 0 4294967295 es
@@ -51,7 +56,7 @@ pub record Lengthened (more : ℕ) (old new : List Extent) : Type 0 where
   pub was : old ≡ front ++ last ∷ []
   pub is : new ≡ front ++ record { logical = last.logical; length = last.length + more; place = last.place } ∷ []
 
--- The new list spells what the source does, begins and ends as it does, is in normal form and ends by end.
+-- The new list spells what the source does, begins and ends as it does, is in normal form, no longer, and ends by end.
 pub record Joins (end : ℕ) (source new : List Extent) : Type 0 where
   pub same : SamePlaces new source
   pub rising : IsRising 0 end new
@@ -59,3 +64,4 @@ pub record Joins (end : ℕ) (source new : List Extent) : Type 0 where
   pub places : PlacesFit new
   pub start : start_of new ≡ start_of source
   pub stop : stop_of new ≡ stop_of source
+  pub few : length new ≤ length source

@@ -1,7 +1,7 @@
 -- The tree of nodes.
 use Rattle.std.specs.Prelude.{◌≡◌, ◌<◌, ◌≤◌, ◌/◌, ◌^◌, ℕ, zero, suc, List, [], ◌∷◌, length, map}
 use Rattle.layout.specs.declared.extents.Extent.{Extent}
-use Rattle.extent_tree.specs.Normal.{IsNormal}
+use Rattle.extent_tree.specs.Normal.{IsMap}
 use Rattle.extent_tree.specs.Nodes.{flat, summaries, AreFilled, HaveFrom}
 
 -- The nodes of one level: none is empty or has more entries than the width; where they are several, each has a quarter of the width at least.
@@ -34,9 +34,10 @@ pub record IsWidth (width : ℕ) : Type 0 where
   pub least : 8 ≤ width
   pub most : width < 2 ^ 31
 
--- the leaves spell a list in normal form, and the levels above cover them
-pub record IsExtentTree (width : ℕ) (leaves : List (List Extent)) (inner : List (List (List Extent))) : Type 0 where
+-- the leaves spell a map, the levels above cover them, and each leaf has a block or 0
+pub record IsExtentTree (width : ℕ) (leaves : List (List Extent)) (homes : List ℕ) (inner : List (List (List Extent))) : Type 0 where
   pub width_is : IsWidth width
-  pub normal : IsNormal (flat leaves)
+  pub spells : IsMap (flat leaves)
+  pub homed : length homes ≡ length leaves
   pub level : IsLevel width leaves
   pub tree : IsTree width leaves inner

@@ -1,12 +1,14 @@
 //! The extents of one inode in one tier: a map from logical blocks to places, kept as a tree of nodes.
 //!
-//! Contracts see an `Extents` as its runs, in the normal form of `extent_nodes`, and how many entries each level of its tree has.
+//! Contracts see an `Extents` as its runs, how many entries each level of its tree has, and its leaves with the blocks where they stand.
 #![tactic(auto)]
 
 mod byte_search;
 mod extent_join;
 mod freed_places;
 mod leaf_choice;
+mod leaf_homes;
+mod leaf_laws;
 mod leaf_search;
 mod map;
 mod map_change;
@@ -16,12 +18,13 @@ mod node_laws;
 mod node_pack;
 mod node_search;
 mod tree;
+mod tree_laws;
 mod upper_levels;
 
 pub use byte_search::find_extent;
 pub use extent_join::{push, push_part};
+pub use leaf_laws::few_leaves_are_made;
 pub use map::{BlockMap, Place};
-pub use map_change::change;
 pub use map_laws::{
     few_blocks_are_few_runs, put_blocks_lie_apart, put_blocks_lie_once, put_blocks_lie_within,
     whole_map_fits_a_block,
@@ -31,3 +34,4 @@ pub use node_laws::{block_spells_a_map, map_is_spelled_by_a_block, normal_form_i
 pub use node_pack::{pack, push_entries, push_summaries};
 pub use node_search::{nodes_before, nodes_up_to};
 pub use tree::{Counted, Extents};
+pub use tree_laws::lowest_tree_is_one_block;

@@ -3,7 +3,7 @@ ghost use Rattle.std.specs.List.{AllByRecursion};
 ghost use Rattle.tier_device.specs.declared.media.Tier.{Tier};
 ghost use Rattle.tier_device.specs.declared.media.Tier.TheVariants as tiers;
 ghost use Rattle.extent_tree.specs.Changes.{after};
-ghost use Rattle.extent_tree.specs.Normal.{IsRising, PlacesFit, IsNormal};
+ghost use Rattle.extent_tree.specs.Normal.{IsRising, PlacesFit, NoneGoesOn, IsNormal};
 ghost use Rattle.extent_tree.specs.Places.{place_of, SamePlaces};
 ghost use Rattle.block_alloc.specs.Runs.{blocks_of};
 ghost use Rattle.extent_tree.specs.Map.{runs_in, lies_at, ArePut, AreCut, places_of, HasBlock};
@@ -26,10 +26,14 @@ pub struct BlockMap {
 
 impl Model for BlockMap {
     ghost use Rattle.extent_tree.specs.Map.{TierRuns};
+    ghost use Rattle.extent_tree.specs.Normal.{NoneGoesOn};
 
     ghost Value = { TierRuns };
 
     ghost view = { λ m. record { fast = m.fast.runs; block = m.block.runs; slow = m.slow.runs } };
+
+    // Each tree was made from extents or by changes, so that no run goes on where the one before ends.
+    ghost invariant = { λ m. NoneGoesOn m.fast.runs × NoneGoesOn m.block.runs × NoneGoesOn m.slow.runs };
 }
 
 /// A block of a tier.
@@ -72,7 +76,8 @@ impl BlockMap {
     }
 
     fn tree(&self, tier: Tier) -> &Extents<MAX_EXTENTS>
-        ensures { result.now.runs ≡ runs_in self.now tier }
+        ensures runs { result.now.runs ≡ runs_in self.now tier }
+        ensures apart { NoneGoesOn result.now.runs }
     {
         match tier {
             Tier::Fast => &self.fast,
@@ -183,6 +188,9 @@ fn put_in(
     ensures here { OnOk result ((k : ℕ) → place_of here.new.runs k ≡ after run.first run.count (Some place) here.old.runs k) }
     ensures one { OnOk result ((k : ℕ) → place_of one.new.runs k ≡ after run.first run.count None one.old.runs k) }
     ensures other { OnOk result ((k : ℕ) → place_of other.new.runs k ≡ after run.first run.count None other.old.runs k) }
+    ensures here_apart { NoneGoesOn here.old.runs → NoneGoesOn here.new.runs }
+    ensures one_apart { NoneGoesOn one.old.runs → NoneGoesOn one.new.runs }
+    ensures other_apart { NoneGoesOn other.old.runs → NoneGoesOn other.new.runs }
 {
     one.unmap(run)?;
     other.unmap(run)?;
@@ -192,7 +200,8 @@ fn put_in(
 // Unmaps all blocks from one on.
 #[tactic(auto, using(crate::proofs::Runs::cut_is))]
 fn cut_from(tree: &mut Extents<MAX_EXTENTS>, from: u32) -> Result<(), AllocError>
-    ensures { OnOk result ((k : ℕ) → place_of tree.new.runs k ≡ (if nat_le from k then None else place_of tree.old.runs k)) }
+    ensures cut { OnOk result ((k : ℕ) → place_of tree.new.runs k ≡ (if nat_le from k then None else place_of tree.old.runs k)) }
+    ensures apart { NoneGoesOn tree.old.runs → NoneGoesOn tree.new.runs }
 {
     tree.unmap(Run {
         first: from,

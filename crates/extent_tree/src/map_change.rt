@@ -1,57 +1,30 @@
-// Extents of which a run of blocks is mapped anew or unmapped.
-ghost use Rattle.std.specs.Prelude.{◌≤◌, ◌<◌, ◌+◌, ◌++◌, ◌^◌, IfSome, IfOk, OnOk};
-ghost use Rattle.extent_tree.specs.Changes.{changed_extents, piece};
-ghost use Rattle.extent_tree.specs.Normal.{IsRising, NoneGoesOn, PlacesFit, Joins};
+// Extents of which a run of blocks gets others.
+ghost use Rattle.std.specs.Prelude.{◌<◌, ◌+◌, ◌^◌, IfOk};
+ghost use Rattle.extent_tree.specs.Changes.{changed_extents, ArePieces};
+ghost use Rattle.extent_tree.specs.Normal.{IsRising, PlacesFit, Joins};
 
-use crate::extent_join::{push, push_part};
+use crate::extent_join::push_part;
+use block_alloc::Run;
 use layout::Extent;
 use std::alloc::{AllocError, Global};
 
-/// The extents with a run of blocks mapped from a place on, whatever was mapped there before, or unmapped.
+/// The extents with a run of blocks mapped as these pieces say, whatever was mapped there before. All that go on where others end are joined.
 pub fn change(
     alloc: Global,
     extents: &[Extent],
-    first: u32,
-    count: u32,
-    place: Option<u32>,
+    run: Run,
+    pieces: &[Extent],
 ) -> Result<Vec<Extent>, AllocError>
-    requires some { 0 < count }
-    requires blocks { first + count < 2 ^ 32 }
-    requires places { IfSome place (λ p. p + count < 2 ^ 32) }
+    requires blocks { run.first + run.count < 2 ^ 32 }
+    requires pieces { ArePieces run.first run.count pieces.now }
     requires rising { IsRising 0 4294967295 extents.now }
     requires fit { PlacesFit extents.now }
-    ensures { IfOk result (λ v. Joins 4294967295 (changed_extents first count place extents.now) v.items) }
+    ensures { IfOk result (λ v. Joins 4294967295 (changed_extents run.first run.count pieces.now extents.now) v.items) }
 {
+    let end = run.first + run.count;
     let mut list = Vec::new(alloc);
-    push_part(&mut list, extents, 0, first)?;
-    push_piece(&mut list, first, count, place)?;
-    push_part(&mut list, extents, first + count, u32::MAX)?;
+    push_part(&mut list, extents, 0, run.first)?;
+    push_part(&mut list, pieces, run.first, end)?;
+    push_part(&mut list, extents, end, u32::MAX)?;
     Ok(list)
-}
-
-fn push_piece(
-    extents: &mut Vec<Extent>,
-    first: u32,
-    count: u32,
-    place: Option<u32>,
-) -> Result<(), AllocError>
-    requires some { 0 < count }
-    requires blocks { first + count < 2 ^ 32 }
-    requires places { IfSome place (λ p. p + count < 2 ^ 32) }
-    requires rising { IsRising 0 first extents.old.items }
-    requires apart { NoneGoesOn extents.old.items }
-    requires fit { PlacesFit extents.old.items }
-    ensures { OnOk result (Joins (first + count) (extents.old.items ++ piece first count place) extents.new.items) }
-{
-    match place {
-        None => Ok(()),
-        Some(place) => push(
-            extents,
-            Extent {
-                logical: first,
-                length: count,
-                place,
-            },
-        ),
-    }
 }

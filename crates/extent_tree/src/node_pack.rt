@@ -1,5 +1,5 @@
 // Nodes of one level, and the entries that cover them one level up.
-ghost use Rattle.std.specs.Prelude.{◌≡◌, ◌≤◌, ◌<◌, ◌+◌, ◌/◌, ◌^◌, ◌++◌, length, IfOk, OnOk};
+ghost use Rattle.std.specs.Prelude.{◌≡◌, ◌≤◌, ◌<◌, ◌+◌, ◌-◌, ◌*◌, ◌/◌, ◌^◌, ◌++◌, length, IfOk, OnOk};
 ghost use Rattle.extent_tree.specs.Nodes.{flat, summaries, HaveFrom, AreFilled};
 ghost use Rattle.extent_tree.specs.Normal.{IsRising};
 
@@ -15,6 +15,7 @@ pub fn pack(alloc: Global, width: usize, entries: &[Extent]) -> Result<Vec<Node>
     ensures some { IfOk result (λ v. AreFilled v.items) }
     ensures most { IfOk result (λ v. HaveFrom 0 width v.items) }
     ensures quarter { IfOk result (λ v. width / 4 ≤ length entries.now → HaveFrom (width / 4) width v.items) }
+    ensures few { IfOk result (λ v. (width - width / 4) * length v.items ≤ length entries.now + (width - width / 4)) }
 {
     let quarter = width / 4;
     let mut nodes = Vec::new(alloc);

@@ -1,12 +1,14 @@
 -- Runs of places that have none in common: a test over a sorted list is the test of all pairs.
-use Rattle.std.proofs.Common.{◌≡◌, ℕ, suc, ◌+◌, ◌<◌, ◌≤◌, Bool, true, false, leb, ◌||◌, List, [], ◌∷◌, length, get_or, refl, sym, arith, inl, inr}
+use Rattle.std.proofs.Common.{◌≡◌, ℕ, suc, ◌+◌, ◌<◌, ◌≤◌, Bool, true, false, cond, leb, eqb, not, ◌||◌, List, [], ◌∷◌, ◌++◌, length, map, get_or, set, take, drop, refl, sym, ap, subst, ◌∙◌, append_assoc, arith, inl, inr}
 use Rattle.std.specs.List.{list_all}
 use Rattle.std.specs.List.Sorted.{IsPermutation, IsNonDecreasingBy}
 use Rattle.std.proofs.lemmas.List.Sorted.{IsPermutation-sym}
-use Rattle.std.proofs.lemmas.Bool.{and_from, leb-true, le-leb, or_cases}
+use Rattle.std.proofs.lemmas.Bool.{and_from, leb-true, le-leb, eq-eqb, ne_eqb, or_cases}
+use Rattle.std.proofs.lemmas.List.{append-nil, drop-set-lt, drop_all, drop_more, take_all, take_more_set}
+use Rattle.std.proofs.lemmas.Bool.Decides.{nat_tests}
 use Rattle.layout.specs.declared.extents.Extent.{Extent}
 use Rattle.layout.specs.Bytes.{all_pairs}
-use Rattle.layout.specs.Extents.{are_stepping, is_apart, places_apart}
+use Rattle.layout.specs.Extents.{one_block, are_stepping, is_apart, are_apart, places_apart}
 use Rattle.layout.proofs.Limits.{and_parts}
 use Rattle.layout.proofs.Pairs.{all_at, all_from, same_all, same_pairs}
 
@@ -70,3 +72,44 @@ pub stepping_is_apart : (old new : List Extent) → IsPermutation old new → Is
 stepping_is_apart old new perm sorted long =
     same_bool _ _ (λ h. same_pairs is_apart both old new perm (stepping_apart 0 new h))
     (λ h. apart_stepping 0 new (λ d lt. omega arith) sorted (same_all has_blocks old new perm long) (same_pairs is_apart both new old (IsPermutation-sym old new perm) h))
+
+-- ---- entries above leaves, as extents of one block
+
+one_apart : (a b : ℕ) → (leb (a + 1) b || leb (b + 1) a) ≡ not (eqb a b)
+one_apart a b = grind (arith, nat_tests)
+
+one_from_all : (e : Extent) (es : List Extent) → list_all (is_apart (one_block e)) (map one_block es) ≡ list_all (λ x. not (eqb e.place x.place)) es
+one_from_all e [] = refl
+one_from_all e (x ∷ es) = rw (one_apart e.place x.place, one_from_all e es) refl
+
+ones_apart : (es : List Extent) → places_apart (map one_block es) ≡ all_pairs (λ a b. not (eqb a.place b.place)) es
+ones_apart [] = refl
+ones_apart (e ∷ es) = rw (one_from_all e es, ones_apart es) refl
+
+pub ones_have_blocks : (es : List Extent) → list_all has_blocks (map one_block es) ≡ true
+ones_have_blocks [] = refl
+ones_have_blocks (e ∷ es) = ones_have_blocks es
+
+-- the test of a level, by the extents that its entries are
+pub apart_above : (level : ℕ) (es : List Extent) → (level ≡ 0 → ⊥) → places_apart (map one_block es) ≡ all_pairs (are_apart level) es
+apart_above level es above =
+    let out : eqb level 0 ≡ false = ne_eqb level 0 above in
+    subst (λ (v : Bool). places_apart (map one_block es) ≡ all_pairs (λ a b. cond v (is_apart a b) (not (eqb a.place b.place))) es) (sym out) (ones_apart es)
+
+pub apart_lowest : (level : ℕ) (es : List Extent) → level ≡ 0 → places_apart es ≡ all_pairs (are_apart level) es
+apart_lowest level es lowest =
+    let is : eqb level 0 ≡ true = eq-eqb level 0 lowest in
+    subst (λ (v : Bool). places_apart es ≡ all_pairs (λ a b. cond v (is_apart a b) (not (eqb a.place b.place))) es) (sym is) refl
+
+-- entries that are cut to one block, one after the other
+pub ones_more : (xs all : List Extent) (i : ℕ) (d : Extent) → i < length xs → take i xs ++ map one_block (drop i xs) ≡ all
+    → take (i + 1) (set xs i (one_block (get_or xs i d))) ++ map one_block (drop (i + 1) (set xs i (one_block (get_or xs i d)))) ≡ all
+ones_more xs all i d lt e =
+    let y = one_block (get_or xs i d) in
+    let front : take (i + 1) (set xs i y) ≡ take i xs ++ y ∷ [] = take_more_set xs i y lt in
+    let back : drop (i + 1) (set xs i y) ≡ drop (i + 1) xs = drop-set-lt (i + 1) xs i y (omega arith) in
+    let split : drop i xs ≡ get_or xs i d ∷ drop (i + 1) xs = drop_more xs i d lt in
+    (λ k. front k ++ map one_block (back k)) ∙ append_assoc (take i xs) (y ∷ []) (map one_block (drop (i + 1) xs)) ∙ ap (λ (t : List Extent). take i xs ++ map one_block t) (sym split) ∙ e
+
+pub ones_done : (xs all : List Extent) (i : ℕ) → length xs ≤ i → take i xs ++ map one_block (drop i xs) ≡ all → xs ≡ all
+ones_done xs all i le e = sym ((λ k. take_all i xs le k ++ map one_block (drop_all i xs le k)) ∙ append-nil xs) ∙ e

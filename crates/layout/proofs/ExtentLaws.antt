@@ -1,16 +1,16 @@
 -- Extent blocks, both ways.
-use Rattle.std.proofs.Common.{◌≡◌, ℕ, ◌+◌, ◌*◌, ◌^◌, ◌<◌, ◌≤◌, true, eqb, leb, ◌&&◌, List, [], ◌∷◌, ◌++◌, length, drop, get_or, Some, refl, sym, ap, subst, ◌∙◌, append_assoc, arith}
+use Rattle.std.proofs.Common.{◌≡◌, ℕ, ◌+◌, ◌*◌, ◌^◌, ◌<◌, ◌≤◌, Bool, true, false, cond, eqb, leb, ltb, ◌&&◌, List, [], ◌∷◌, ◌++◌, length, drop, get_or, Some, refl, sym, ap, subst, ◌∙◌, append_assoc, arith}
 use Rattle.std.specs.List.{flat_map, list_all}
-use Rattle.std.proofs.lemmas.Bool.{and_from, eqb-true, leb-true}
+use Rattle.std.proofs.lemmas.Bool.{and_from, eqb-true, leb-true, ltb-true}
 use Rattle.std.proofs.lemmas.List.{length-append, drop_more}
 use Rattle.tier_device.specs.declared.media.Tier.{Tier}
 use Rattle.tier_device.specs.declared.media.Tier.TheVariants as tiers
 use Rattle.layout.specs.declared.extents.Extent.{Extent}
 use Rattle.layout.specs.declared.geometry.Space.{Space}
 use Rattle.layout.specs.declared.geometry.Space.TheVariants as space
-use Rattle.layout.specs.Places.{Sizes, IsAllowed, is_inode, is_run, blocks_in, node_end, data_first, tier_blocks}
-use Rattle.layout.specs.Bytes.{AreBytes, u32, number_at, items_at, within}
-use Rattle.layout.specs.Extents.{ExtentList, ExtentHead, extent_text, extents_text, extents_spelling, is_extent, are_sorted, are_stepping, places_apart, is_sound, fits_extents, header_at, extent_at, extents_at, extents_of}
+use Rattle.layout.specs.Places.{Sizes, IsAllowed, is_inode, is_node, is_run, blocks_in, node_end, data_first, tier_blocks}
+use Rattle.layout.specs.Bytes.{AreBytes, u32, number_at, items_at, within, all_pairs}
+use Rattle.layout.specs.Extents.{ExtentList, ExtentHead, extent_text, extents_text, extents_spelling, is_extent, is_cover, is_entry, are_sorted, are_stepping, are_apart, is_sound, fits_extents, header_at, extent_at, extents_at, extents_of}
 use Rattle.layout.proofs.Limits.{and_parts, few_blocks}
 use Rattle.layout.proofs.Fields.{Takes, Takes-then, bind_some, test_some, some_is, u32_takes, u32_again, u32_long}
 use Rattle.layout.proofs.Blocks.{within_parts, within_again, filled_from}
@@ -80,44 +80,68 @@ extent_small g s e allowed is =
     let placed = run_small g s e.place e.length allowed q.1 in
     record { logical = omega (arith, ends, few); long = omega (arith, ends, few); place = omega (arith, placed) }
 
-extent_takes : (g : Sizes) (s : Space) (bytes : List ℕ) (x : Extent × List ℕ) → AreBytes bytes → extent_at g s bytes ≡ Some x → Takes bytes (extent_text x.0) x.1 × (is_extent g s x.0 ≡ true)
+cover_small : (g : Sizes) (s : Space) (e : Extent) → IsAllowed g → is_cover g s e ≡ true → IsSmall e
+cover_small g s e allowed is =
+    let p = and_parts (leb 1 e.length) _ is in
+    let q = and_parts (leb (e.logical + e.length) (blocks_in s)) (is_node g e.place) p.1 in
+    let r = and_parts (leb 292 e.place) (ltb e.place (node_end g)) q.1 in
+    let ends : e.logical + e.length ≤ blocks_in s = leb-true _ _ q.0 in
+    let few = few_blocks s in
+    let in_pool : e.place < node_end g = ltb-true _ _ r.1 in
+    record { logical = omega (arith, ends, few); long = omega (arith, ends, few); place = omega (arith, in_pool, allowed.few_units) }
+
+entry_small : (g : Sizes) (s : Space) (level : ℕ) (e : Extent) → IsAllowed g → is_entry g s level e ≡ true → IsSmall e
+entry_small g s level e allowed is = of_level (eqb level 0) is
+  where
+    of_level : (b : Bool) → cond b (is_extent g s e) (is_cover g s e) ≡ true → IsSmall e
+    of_level true h = extent_small g s e allowed h
+    of_level false h = cover_small g s e allowed h
+
+-- each entry has a block or more
+entry_has_blocks : (g : Sizes) (s : Space) (level : ℕ) (e : Extent) → is_entry g s level e ≡ true → has_blocks e ≡ true
+entry_has_blocks g s level e is = of_level (eqb level 0) is
+  where
+    of_level : (b : Bool) → cond b (is_extent g s e) (is_cover g s e) ≡ true → has_blocks e ≡ true
+    of_level true h = (and_parts (leb 1 e.length) _ h).0
+    of_level false h = (and_parts (leb 1 e.length) _ h).0
+
+extent_takes : (g : Sizes) (s : Space) (level : ℕ) (bytes : List ℕ) (x : Extent × List ℕ) → AreBytes bytes → extent_at g s level bytes ≡ Some x → Takes bytes (extent_text x.0) x.1 × (is_entry g s level x.0 ≡ true)
 unfolding extent_at
-extent_takes g s bytes x are e =
+extent_takes g s level bytes x are e =
     let l = bind_some (number_at 4 bytes) _ x e in
     let n = bind_some (number_at 4 l.0.1) _ x l.2 in
     let p = bind_some (number_at 4 n.0.1) _ x n.2 in
     let read : Extent = record { logical = l.0.0; length = n.0.0; place = p.0.0 } in
-    let t = test_some (is_extent g s read) (read, p.0.1) x p.2 in
+    let t = test_some (is_entry g s level read) (read, p.0.1) x p.2 in
     let t0 = u32_takes bytes l.0 are l.1 in
     let t1 = u32_takes l.0.1 n.0 t0.behind n.1 in
     let t2 = u32_takes n.0.1 p.0 t1.behind p.1 in
     let s1 = Takes-then l.0.1 (u32 n.0.0) n.0.1 (u32 p.0.0) p.0.1 t1 t2 in
     let s0 = Takes-then bytes (u32 l.0.0) l.0.1 (u32 n.0.0 ++ u32 p.0.0) p.0.1 t0 s1 in
-    subst (λ (y : Extent × List ℕ). Takes bytes (extent_text y.0) y.1 × (is_extent g s y.0 ≡ true)) t.1 (s0, t.0)
+    subst (λ (y : Extent × List ℕ). Takes bytes (extent_text y.0) y.1 × (is_entry g s level y.0 ≡ true)) t.1 (s0, t.0)
 
-extent_again : (g : Sizes) (s : Space) → IsAllowed g → (e : Extent) (rest : List ℕ) → is_extent g s e ≡ true → extent_at g s (extent_text e ++ rest) ≡ Some (e, rest)
+extent_again : (g : Sizes) (s : Space) (level : ℕ) → IsAllowed g → (e : Extent) (rest : List ℕ) → is_entry g s level e ≡ true → extent_at g s level (extent_text e ++ rest) ≡ Some (e, rest)
 unfolding extent_at
-extent_again g s allowed e rest is =
-    let h = extent_small g s e allowed is in
+extent_again g s level allowed e rest is =
+    let h = entry_small g s level e allowed is in
     let tail1 : List ℕ = u32 e.place ++ rest in
     let tail0 : List ℕ = u32 e.length ++ tail1 in
     let flat : extent_text e ++ rest ≡ u32 e.logical ++ tail0 = simp append_assoc in
-    ap (extent_at g s) flat ∙ rw (u32_again e.logical tail0 h.logical, u32_again e.length tail1 h.long, u32_again e.place rest h.place, is) refl
+    ap (extent_at g s level) flat ∙ rw (u32_again e.logical tail0 h.logical, u32_again e.length tail1 h.long, u32_again e.place rest h.place, is) refl
 
-extent_read : (g : Sizes) (s : Space) → IsAllowed g → IsRead (extent_at g s) extent_text (is_extent g s)
-extent_read g s allowed = record { takes = extent_takes g s; again = extent_again g s allowed }
+extent_read : (g : Sizes) (s : Space) (level : ℕ) → IsAllowed g → IsRead (extent_at g s level) extent_text (is_entry g s level)
+extent_read g s level allowed = record { takes = extent_takes g s level; again = extent_again g s level allowed }
 
--- each extent that was read has a block or more
-pub extents_have_blocks : (g : Sizes) (s : Space) (n : ℕ) (bytes : List ℕ) (x : List Extent × List ℕ) → items_at (extent_at g s) n bytes ≡ Some x → list_all has_blocks x.0 ≡ true
+-- each entry that was read has a block or more
+pub extents_have_blocks : (g : Sizes) (s : Space) (level n : ℕ) (bytes : List ℕ) (x : List Extent × List ℕ) → items_at (extent_at g s level) n bytes ≡ Some x → list_all has_blocks x.0 ≡ true
 unfolding extent_at
-extents_have_blocks g s n bytes x e = items_pass (extent_at g s) has_blocks (λ bs y h.
+extents_have_blocks g s level n bytes x e = items_pass (extent_at g s level) has_blocks (λ bs y h.
     let l = bind_some (number_at 4 bs) _ y h in
     let n = bind_some (number_at 4 l.0.1) _ y l.2 in
     let p = bind_some (number_at 4 n.0.1) _ y n.2 in
     let read : Extent = record { logical = l.0.0; length = n.0.0; place = p.0.0 } in
-    let t = test_some (is_extent g s read) (read, p.0.1) y p.2 in
-    let q = and_parts (leb 1 read.length) _ t.0 in
-    subst (λ (z : Extent × List ℕ). has_blocks z.0 ≡ true) t.1 q.0) n bytes x e
+    let t = test_some (is_entry g s level read) (read, p.0.1) y p.2 in
+    subst (λ (z : Extent × List ℕ). has_blocks z.0 ≡ true) t.1 (entry_has_blocks g s level read t.0)) n bytes x e
 
 -- ---- the head
 
@@ -145,30 +169,31 @@ header_takes bytes x are e =
     let gap : Takes bytes (head_text o.0.0 n.0.0 l.0.0) z.0.1 = subst (λ (k : ℕ). Takes bytes (((u32 o.0.0 ++ u32 n.0.0) ++ u32 l.0.0) ++ u32 k) z.0.1) (eqb-true _ _ p.0) s3 in
     subst (λ (y : ExtentHead × List ℕ). TakesHead bytes y.0 y.1) t.1 (record { takes = gap; few = p.1 })
 
-header_again : (owner count level : ℕ) (rest : List ℕ) → owner < 2 ^ 32 → leb count 340 ≡ true → level ≡ 0 → header_at (head_text owner count level ++ rest) ≡ Some (record { owner = owner; count = count; level = level }, rest)
+header_again : (owner count level : ℕ) (rest : List ℕ) → owner < 2 ^ 32 → leb count 340 ≡ true → level ≤ 1 → header_at (head_text owner count level ++ rest) ≡ Some (record { owner = owner; count = count; level = level }, rest)
 unfolding header_at
-header_again owner count level rest small few one =
+header_again owner count level rest small few low =
     let tail2 : List ℕ = u32 0 ++ rest in
     let tail1 : List ℕ = u32 level ++ tail2 in
     let tail0 : List ℕ = u32 count ++ tail1 in
     let flat : head_text owner count level ++ rest ≡ u32 owner ++ tail0 = simp append_assoc in
     let le : count ≤ 340 = leb-true _ _ few in
-    ap header_at flat ∙ rw (u32_again owner tail0 small, u32_again count tail1 (omega (arith, le)), u32_again level tail2 (omega (arith, one)), u32_again 0 rest (omega arith), few) refl
+    ap header_at flat ∙ rw (u32_again owner tail0 small, u32_again count tail1 (omega (arith, le)), u32_again level tail2 (omega (arith, low)), u32_again 0 rest (omega arith), few) refl
 
 -- ---- lists of extents
 
 record TakesList (g : Sizes) (s : Space) (bytes : List ℕ) (x : ExtentList × List ℕ) : Type 0 where
   takes : Takes bytes (extents_text x.0) x.1
   few : leb (length x.0.extents) 340 ≡ true
-  each : list_all (is_extent g s) x.0.extents ≡ true
+  each : list_all (is_entry g s x.0.level) x.0.extents ≡ true
 
 extents_take : (g : Sizes) (s : Space) → IsAllowed g → (bytes : List ℕ) (x : ExtentList × List ℕ) → AreBytes bytes → extents_at g s bytes ≡ Some x → TakesList g s bytes x
 unfolding extents_at
 extents_take g s allowed bytes x are e =
     let h = bind_some (header_at bytes) _ x e in
-    let es = bind_some (items_at (extent_at g s) h.0.0.count h.0.1) _ x h.2 in
+    let level = h.0.0.level in
+    let es = bind_some (items_at (extent_at g s level) h.0.0.count h.0.1) _ x h.2 in
     let t0 = header_takes bytes h.0 are h.1 in
-    let t1 = items_take (extent_at g s) extent_text (is_extent g s) (extent_read g s allowed) h.0.0.count h.0.1 es.0 t0.takes.behind es.1 in
+    let t1 = items_take (extent_at g s level) extent_text (is_entry g s level) (extent_read g s level allowed) h.0.0.count h.0.1 es.0 t0.takes.behind es.1 in
     let v : ExtentList = record { owner = h.0.0.owner; level = h.0.0.level; extents = es.0.0 } in
     let both = Takes-then bytes (head_text h.0.0.owner h.0.0.count h.0.0.level) h.0.1 (flat_map extent_text es.0.0) es.0.1 t0.takes t1.takes in
     let counted : Takes bytes (head_text h.0.0.owner (length es.0.0) h.0.0.level ++ flat_map extent_text es.0.0) es.0.1 = subst (λ (n : ℕ). Takes bytes (head_text h.0.0.owner n h.0.0.level ++ flat_map extent_text es.0.0) es.0.1) (sym t1.long) both in
@@ -179,21 +204,21 @@ extents_take g s allowed bytes x are e =
 
 record ListFits (g : Sizes) (s : Space) (v : ExtentList) : Type 0 where
   owner : v.owner < 2 ^ 32
-  level : v.level ≡ 0
+  level : v.level ≤ 1
   few : leb (length v.extents) 340 ≡ true
-  each : list_all (is_extent g s) v.extents ≡ true
+  each : list_all (is_entry g s v.level) v.extents ≡ true
   sound : is_sound v ≡ true
 
 list_fits : (g : Sizes) (s : Space) (v : ExtentList) → fits_extents g s v ≡ true → ListFits g s v
 list_fits g s v fit =
     let p = and_parts _ (is_sound v) fit in
-    let q = and_parts (leb (length v.extents) 340) (list_all (is_extent g s) v.extents) p.0 in
-    let r = and_parts _ (places_apart v.extents) p.1 in
-    let u = and_parts (is_inode v.owner && eqb v.level 0) (are_sorted 0 v.extents) r.0 in
-    let w = and_parts (is_inode v.owner) (eqb v.level 0) u.0 in
+    let q = and_parts (leb (length v.extents) 340) (list_all (is_entry g s v.level) v.extents) p.0 in
+    let r = and_parts _ (all_pairs (are_apart v.level) v.extents) p.1 in
+    let u = and_parts (is_inode v.owner && leb v.level 1) (are_sorted 0 v.extents) r.0 in
+    let w = and_parts (is_inode v.owner) (leb v.level 1) u.0 in
     let t = and_parts (leb 1 v.owner) (leb v.owner 1024) w.0 in
     let inode : v.owner ≤ 1024 = leb-true _ _ t.1 in
-    record { owner = omega (arith, inode); level = eqb-true _ _ w.1; few = q.0; each = q.1; sound = p.1 }
+    record { owner = omega (arith, inode); level = leb-true _ _ w.1; few = q.0; each = q.1; sound = p.1 }
 
 extents_again : (g : Sizes) (s : Space) → IsAllowed g → (v : ExtentList) (rest : List ℕ) → ListFits g s v → extents_at g s (extents_text v ++ rest) ≡ Some (v, rest)
 unfolding extents_at
@@ -202,7 +227,7 @@ extents_again g s allowed v rest h =
     let head : List ℕ = head_text v.owner (length v.extents) v.level in
     let flat : extents_text v ++ rest ≡ head ++ (texts ++ rest) = ap (λ (t : List ℕ). t ++ rest) (sym (head_and_extents v)) ∙ append_assoc head texts rest in
     ap (extents_at g s) flat
-    ∙ rw (header_again v.owner (length v.extents) v.level (texts ++ rest) h.owner h.few h.level, items_again (extent_at g s) extent_text (is_extent g s) (extent_read g s allowed) v.extents rest h.each) refl
+    ∙ rw (header_again v.owner (length v.extents) v.level (texts ++ rest) h.owner h.few h.level, items_again (extent_at g s v.level) extent_text (is_entry g s v.level) (extent_read g s v.level allowed) v.extents rest h.each) refl
 
 pub extents_of_takes : (g : Sizes) (s : Space) (block : List ℕ) (v : ExtentList) → IsAllowed g → AreBytes block → extents_of g s block ≡ Some v → (fits_extents g s v ≡ true) × (block ≡ extents_spelling v)
 unfolding extents_of

@@ -1,12 +1,12 @@
 -- The superblock, both ways.
-use Rattle.std.proofs.Common.{◌≡◌, ℕ, true, cond, eqb, List, ◌++◌, length, Some, None, refl, ap, subst, ◌∙◌, append_assoc, arith}
-use Rattle.std.proofs.lemmas.Bool.{eqb-true}
+use Rattle.std.proofs.Common.{◌≡◌, ℕ, ◌^◌, ◌<◌, true, cond, eqb, List, ◌++◌, length, Some, None, refl, ap, subst, ◌∙◌, append_assoc, inl, inr, arith}
+use Rattle.std.proofs.lemmas.Bool.{and_from, or_cases, eqb-true}
 use Rattle.std.proofs.lemmas.List.{length-append}
 use Rattle.layout.specs.declared.superblock.Super.{Super}
 use Rattle.layout.specs.Bytes.{AreBytes, u32, number_at, text_at}
 use Rattle.layout.specs.Places.{Sizes, sizes, allows, geometry_of}
-use Rattle.layout.specs.Super.{magic, super_text, super_spelling, fits_super, super_at, super_of}
-use Rattle.layout.proofs.Limits.{allowed_from}
+use Rattle.layout.specs.Super.{magic, super_text, super_spelling, is_version, fits_super, super_at, super_of}
+use Rattle.layout.proofs.Limits.{and_parts, allowed_from}
 use Rattle.layout.proofs.Fields.{Takes, Takes-then, bind_some, test_some, guard_some, some_is, text_takes, u32_takes, u32_again, u32_long}
 use Rattle.layout.proofs.Blocks.{within_parts, within_again, filled_from}
 
@@ -20,9 +20,9 @@ super_takes bytes x are e =
     let b = bind_some (number_at 4 f.0.1) _ x f.2 in
     let s = bind_some (number_at 4 b.0.1) _ x b.2 in
     let size : Sizes = sizes u.0.0 f.0.0 b.0.0 s.0.0 in
-    let g = bind_some (cond (eqb v.0.0 1) (geometry_of size) None) _ x s.2 in
-    let is_1 = guard_some (eqb v.0.0 1) (geometry_of size) g.0 g.1 in
-    let allowed = test_some (allows size) size g.0 is_1.1 in
+    let g = bind_some (cond (is_version v.0.0) (geometry_of size) None) _ x s.2 in
+    let known = guard_some (is_version v.0.0) (geometry_of size) g.0 g.1 in
+    let allowed = test_some (allows size) size g.0 known.1 in
     let t0 = text_takes magic bytes a.0 are a.1 in
     let t1 = u32_takes a.0 v.0 t0.behind v.1 in
     let t2 = u32_takes v.0.1 u.0 t1.behind u.1 in
@@ -34,24 +34,30 @@ super_takes bytes x are e =
     let s2 = Takes-then v.0.1 (u32 u.0.0) u.0.1 _ s.0.1 t2 s3 in
     let s1 = Takes-then a.0 (u32 v.0.0) v.0.1 _ s.0.1 t1 s2 in
     let s0 = Takes-then bytes magic a.0 _ s.0.1 t0 s1 in
-    let fields : Takes bytes (super_text (record { geometry = size })) s.0.1 = subst (λ (n : ℕ). Takes bytes (magic ++ (u32 n ++ (u32 u.0.0 ++ (u32 f.0.0 ++ (u32 b.0.0 ++ u32 s.0.0))))) s.0.1) (eqb-true _ _ is_1.0) s0 in
-    let made : Super × List ℕ = (record { geometry = g.0 }, s.0.1) in
-    let at_size : Super × List ℕ = (record { geometry = size }, s.0.1) in
-    let same : at_size ≡ x = ap (λ (k : Sizes). (record { geometry = k }, s.0.1)) allowed.1 ∙ some_is made x g.2 in
-    subst (λ (y : Super × List ℕ). Takes bytes (super_text y.0) y.1 × (fits_super y.0 ≡ true)) same (fields, allowed.0)
+    let made : Super × List ℕ = (record { geometry = g.0; version = v.0.0 }, s.0.1) in
+    let at_size : Super × List ℕ = (record { geometry = size; version = v.0.0 }, s.0.1) in
+    let same : at_size ≡ x = ap (λ (k : Sizes). (record { geometry = k; version = v.0.0 }, s.0.1)) allowed.1 ∙ some_is made x g.2 in
+    subst (λ (y : Super × List ℕ). Takes bytes (super_text y.0) y.1 × (fits_super y.0 ≡ true)) same (s0, and_from _ _ known.0 allowed.0)
+
+version_small : (n : ℕ) → is_version n ≡ true → n < 2 ^ 32
+version_small n is = elim (or_cases (eqb n 1) (eqb n 2) is) [
+  | inl e ↦ omega (arith, eqb-true n 1 e)
+  | inr e ↦ omega (arith, eqb-true n 2 e)
+]
 
 super_again : (s : Super) (rest : List ℕ) → fits_super s ≡ true → super_at (super_text s ++ rest) ≡ Some (s, rest)
 unfolding super_at
 super_again s rest fit =
-    let h = allowed_from s.geometry fit in
+    let fits = and_parts (is_version s.version) (allows s.geometry) fit in
+    let h = allowed_from s.geometry fits.1 in
     let g = s.geometry in
     let tail4 : List ℕ = u32 g.slow ++ rest in
     let tail3 : List ℕ = u32 g.block ++ tail4 in
     let tail2 : List ℕ = u32 g.fast ++ tail3 in
     let tail1 : List ℕ = u32 g.units ++ tail2 in
-    let tail0 : List ℕ = u32 1 ++ tail1 in
+    let tail0 : List ℕ = u32 s.version ++ tail1 in
     let flat : super_text s ++ rest ≡ magic ++ tail0 = simp append_assoc in
-    ap super_at flat ∙ rw (u32_again 1 tail1 (omega arith), u32_again g.units tail2 (omega (arith, h.few_units)), u32_again g.fast tail3 (omega (arith, h.fast)), u32_again g.block tail4 (omega (arith, h.block)), u32_again g.slow rest (omega (arith, h.slow)), fit) refl
+    ap super_at flat ∙ rw (u32_again s.version tail1 (version_small s.version fits.0), u32_again g.units tail2 (omega (arith, h.few_units)), u32_again g.fast tail3 (omega (arith, h.fast)), u32_again g.block tail4 (omega (arith, h.block)), u32_again g.slow rest (omega (arith, h.slow)), fits.0, fits.1) refl
 
 pub super_text_long : (s : Super) → length (super_text s) ≡ 28
 super_text_long s = simp (length-append, u32_long) refl

@@ -1,5 +1,5 @@
 -- Directory blocks: entries of a directory.
-use Rattle.std.specs.Prelude.{◌≡◌, ◌≤◌, ◌==◌, ◌&&◌, true, not, nat_le, unwrap_or, slice_set, slice_index_or, ◌-◌, Bool, List, [], ◌∷◌, ◌++◌, length, take, drop, ℕ, Option, Some, None, if◌then◌else◌}
+use Rattle.std.specs.Prelude.{◌≡◌, ◌≤◌, ◌&&◌, true, not, nat_le, unwrap_or, slice_set, slice_index_or, ◌-◌, Bool, List, [], ◌∷◌, ◌++◌, length, take, drop, ℕ, Option, Some, None, if◌then◌else◌}
 use Rattle.std.specs.List.{flat_map, list_all, swap_remove}
 use Rattle.std.specs.Str.{bytes_eq}
 use Rattle.posix_calls.specs.declared.limits.TheConstants.{MAX_NAME}

@@ -1,8 +1,8 @@
-ghost use Rattle.std.specs.Prelude.{◌≡◌, ◌≤◌, ◌+◌, length, take, option_map, nat_le, true, IfSome};
+ghost use Rattle.std.specs.Prelude.{◌≡◌, ◌≤◌, ◌+◌, length, map, take, option_map, nat_le, true, IfSome};
 ghost use Rattle.std.specs.List.{list_all};
 ghost use Rattle.layout.specs.Answers.{Reads};
-ghost use Rattle.layout.specs.Bytes.{items_at, with_text, within, are_zero};
-ghost use Rattle.layout.specs.Extents.{extent_text, extents_spelling, is_extent, are_sorted, are_stepping, places_apart, header_at, extent_at, extents_at, extents_of};
+ghost use Rattle.layout.specs.Bytes.{items_at, with_text, within, are_zero, all_pairs};
+ghost use Rattle.layout.specs.Extents.{extent_text, extents_spelling, is_extent, is_cover, is_entry, one_block, are_sorted, are_stepping, are_apart, places_apart, header_at, extent_at, extents_at, extents_of};
 ghost use Rattle.layout.specs.declared.error.What.TheVariants as what;
 
 use crate::error::{LayoutError, What};
@@ -18,13 +18,17 @@ use std::marker::Model;
 /// The most extents that a block has.
 pub const MAX_EXTENTS: usize = 340;
 
+/// The fewest extents that a leaf has: a quarter of the most.
+pub const LEAST_EXTENTS: usize = 85;
+
 /// The byte of the first extent.
 pub const FIRST_EXTENT_AT: usize = 16;
 
 /// The bytes of an extent.
 pub const EXTENT_SIZE: usize = 12;
 
-/// A run of logical blocks of a node, and the first of the blocks that hold them.
+/// A run of logical blocks of a node, and the first of the blocks that hold them. Above leaves the blocks from the first to the last that a leaf maps, and the
+/// block of that leaf.
 #[derive(Clone, Copy, Debug, PartialEq, Eq)]
 pub struct Extent {
     pub logical: u32,
@@ -33,7 +37,7 @@ pub struct Extent {
 }
 
 /// The extents of a node in one space: at most 340, sorted by their logical blocks, none of which two have in common, nor a
-/// place.
+/// place. At level 1 it has an entry for each of its leaves, blocks of level 0, instead.
 #[derive(Debug, Drop)]
 pub struct ExtentBlock {
     owner: u32,
@@ -50,7 +54,7 @@ impl Model for ExtentBlock {
 }
 
 impl ExtentBlock {
-    /// The extents of an inode, in a tree of one block.
+    /// Extents of an inode: all, in a tree of one block, or those of a leaf.
     pub fn new(owner: u32, extents: Vec<Extent>) -> Self
         ensures owner { result.owner ≡ owner }
         ensures level { result.level ≡ 0 }
@@ -63,6 +67,19 @@ impl ExtentBlock {
         }
     }
 
+    /// A root above leaves, with an entry for each.
+    pub fn above_leaves(owner: u32, covers: Vec<Extent>) -> Self
+        ensures owner { result.owner ≡ owner }
+        ensures level { result.level ≡ 1 }
+        ensures extents { result.extents ≡ covers.items }
+    {
+        ExtentBlock {
+            owner,
+            level: 1,
+            extents: covers,
+        }
+    }
+
     /// The inode.
     pub fn owner(&self) -> u32
         ensures { result ≡ self.now.owner }
@@ -70,14 +87,14 @@ impl ExtentBlock {
         self.owner
     }
 
-    /// How many levels of extent blocks are below: none in this version, so that each place is a block of content.
+    /// How many levels of extent blocks are below: 0, so that each place is a block of content, or 1.
     pub fn level(&self) -> u32
         ensures { result ≡ self.now.level }
     {
         self.level
     }
 
-    /// The extents, in their order.
+    /// The extents, or what the leaves cover, in their order.
     pub fn extents(&self) -> &[Extent]
         ensures { result.now ≡ self.now.extents }
     {
@@ -94,8 +111,8 @@ impl ExtentBlock {
         self.encode_into(block);
     }
 
-    /// The extents that a block spells for a node whose content lies in that space. `Damaged`, with the number of the block,
-    /// where it spells none; that takes no memory. `Memory` where there was none for what it spells.
+    /// The extents that a block spells for a node whose content lies in that space, or the entries above leaves. `Damaged`, with the number of the block,
+    /// where it spells neither; that takes no memory. `Memory` where there was none for what it spells.
     pub fn decode(
         alloc: Global,
         geometry: &Geometry,
@@ -191,11 +208,11 @@ fn block_of(
     ensures few { IfSome result (λ h. h.count ≤ MAX_EXTENTS) }
 {
     let head = within_block(geometry, space, block, list)?;
-    if !is_inode(head.owner) || head.level != 0 || !are_sorted(&list[..head.count]) {
+    if !is_inode(head.owner) || 1 < head.level || !are_sorted(&list[..head.count]) {
         return None;
     }
     let mut places = *list;
-    if !places_apart(&mut places[..head.count]) {
+    if !are_apart(head.level, &mut places[..head.count]) {
         return None;
     }
     Some(head)
@@ -216,7 +233,7 @@ fn within_block(
         return None;
     }
     let (head, rest) = header_of(block)?;
-    let rest = list_of(geometry, space, rest, &mut list[..head.count])?;
+    let rest = list_of(geometry, space, head.level, rest, &mut list[..head.count])?;
     if !are_zero(rest) {
         return None;
     }
@@ -250,14 +267,15 @@ fn header_of(bytes: &[u8]) -> Option<(Head, &[u8])>
 fn list_of<'a>(
     geometry: &Geometry,
     space: Space,
+    level: u32,
     bytes: &'a [u8],
     list: &mut [Extent],
 ) -> Option<&'a [u8]>
-    ensures { option_map (λ rest. (list.new, rest.now)) result ≡ items_at (extent_at geometry.now space) (length list.old) bytes.now }
+    ensures { option_map (λ rest. (list.new, rest.now)) result ≡ items_at (extent_at geometry.now space level) (length list.old) bytes.now }
 {
     let mut rest = bytes;
     for index in 0..list.len() {
-        let (extent, after) = extent_of(geometry, space, rest)?;
+        let (extent, after) = extent_of(geometry, space, level, rest)?;
         list[index] = extent;
         rest = after;
     }
@@ -265,8 +283,13 @@ fn list_of<'a>(
 }
 
 #[tactic(auto, unfolding(crate::specs::Extents::extent_at))]
-fn extent_of<'a>(geometry: &Geometry, space: Space, bytes: &'a [u8]) -> Option<(Extent, &'a [u8])>
-    ensures { option_map (λ x. (x.0, x.1.now)) result ≡ extent_at geometry.now space bytes.now }
+fn extent_of<'a>(
+    geometry: &Geometry,
+    space: Space,
+    level: u32,
+    bytes: &'a [u8],
+) -> Option<(Extent, &'a [u8])>
+    ensures { option_map (λ x. (x.0, x.1.now)) result ≡ extent_at geometry.now space level bytes.now }
 {
     let (logical, rest) = u32_of(bytes)?;
     let (length, rest) = u32_of(rest)?;
@@ -276,10 +299,27 @@ fn extent_of<'a>(geometry: &Geometry, space: Space, bytes: &'a [u8]) -> Option<(
         length,
         place,
     };
-    if !is_extent(geometry, space, extent) {
+    if !is_entry(geometry, space, level, extent) {
         return None;
     }
     Some((extent, rest))
+}
+
+fn is_entry(geometry: &Geometry, space: Space, level: u32, entry: Extent) -> bool
+    ensures { result ≡ is_entry geometry.now space level entry }
+{
+    if level == 0 {
+        is_extent(geometry, space, entry)
+    } else {
+        is_cover(geometry, space, entry)
+    }
+}
+
+fn is_cover(geometry: &Geometry, space: Space, cover: Extent) -> bool
+    ensures { result ≡ is_cover geometry.now space cover }
+{
+    let end = cover.logical as u64 + cover.length as u64;
+    1 <= cover.length && end <= space.blocks() as u64 && geometry.is_node(cover.place)
 }
 
 fn is_extent(geometry: &Geometry, space: Space, extent: Extent) -> bool
@@ -318,6 +358,25 @@ fn are_stepping(extents: &[Extent]) -> bool
         end = extent.place as u64 + extent.length as u64;
     }
     true
+}
+
+// Whether no two entries of a level share a block. It leaves them in the order of their places, above leaves with other lengths.
+fn are_apart(level: u32, entries: &mut [Extent]) -> bool
+    requires { list_all (λ e. nat_le 1 e.length) entries.old ≡ true }
+    ensures { result ≡ all_pairs (are_apart level) entries.old }
+{
+    if level != 0 {
+        cut_to_one_block(entries);
+    }
+    places_apart(entries)
+}
+
+fn cut_to_one_block(entries: &mut [Extent])
+    ensures { entries.new ≡ map one_block entries.old }
+{
+    for entry in entries.iter_mut() {
+        entry.length = 1;
+    }
 }
 
 // Whether no two extents have a place in common. It leaves them in the order of their places.

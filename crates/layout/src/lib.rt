@@ -29,7 +29,7 @@ pub use dir_entries::DirEntries;
 pub use directory::{DirBlock, DirEntry, MAX_IN_BLOCK};
 pub use entry::EntryRef;
 pub use error::{LayoutError, What};
-pub use extents::{Extent, ExtentBlock, MAX_EXTENTS};
+pub use extents::{Extent, ExtentBlock, LEAST_EXTENTS, MAX_EXTENTS};
 pub use field_reads::are_zero;
 pub use geometry::{Geometry, Space};
 pub use image::Image;
@@ -38,14 +38,16 @@ pub use laws::{
     marks_are_spelled, slot_is_read, slot_is_spelled, super_is_read, super_is_spelled,
 };
 pub use marks::{CLIENTS, Mark, Marks};
-pub use numbers::{format_has_its_bytes, format_has_its_limits, format_has_its_places};
+pub use numbers::{
+    format_has_its_bytes, format_has_its_levels, format_has_its_limits, format_has_its_places,
+};
 pub use places::{
     BLOCK, FILE_BLOCKS, FIRST_IMAGE_BLOCK, FIRST_NODE_BLOCK, FIRST_SLOT_BLOCK, GATE_BLOCK,
     HEAD_BLOCK, MARKS_BLOCK, MAX_DATA_BLOCKS, MAX_IMAGES, MAX_UNITS, MIN_UNITS, SLOT_SIZE,
     SLOTS_IN_BLOCK, SUPER_BLOCK, slot_block, slot_byte,
 };
 pub use slot::Slot;
-pub use superblock::Super;
+pub use superblock::{FIRST_VERSION, LAST_VERSION, Super};
 
 /// Of `file_graph`, what the crates above name.
 pub mod in_file_graph {

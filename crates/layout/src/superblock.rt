@@ -1,6 +1,6 @@
 ghost use Rattle.std.specs.Prelude.{◌≡◌, length, option_map};
 ghost use Rattle.layout.specs.Answers.{or_damaged};
-ghost use Rattle.layout.specs.Super.{super_spelling, super_at, super_of};
+ghost use Rattle.layout.specs.Super.{super_spelling, super_at, super_of, is_version};
 ghost use Rattle.layout.specs.declared.error.What.TheVariants as what;
 
 use crate::error::{LayoutError, What};
@@ -12,16 +12,20 @@ use crate::places::{BLOCK, SUPER_BLOCK};
 use file_graph::u32_of;
 use tier_device::Tier;
 
-/// The version of the format.
-pub const VERSION: u32 = 1;
+/// The first version of the format, in which each inode's extents in a tier are one block.
+pub const FIRST_VERSION: u32 = 1;
+
+/// The last version of the format, in which that block may be a root above leaves.
+pub const LAST_VERSION: u32 = 2;
 
 // What a superblock begins with.
 const MAGIC: &[u8] = b"STRATAFS";
 
-/// The superblock, which gives the geometry.
+/// The superblock, which gives the geometry and the version of the format.
 #[derive(Clone, Copy, Debug, PartialEq, Eq)]
 pub struct Super {
     pub geometry: Geometry,
+    pub version: u32,
 }
 
 impl Super {
@@ -34,7 +38,7 @@ impl Super {
         self.encode_into(block);
     }
 
-    /// The superblock that a block spells; `Damaged` where it spells none.
+    /// The superblock that a block spells; `Damaged` where it spells none, as one of another version.
     pub fn decode(block: &[u8]) -> Result<Self, LayoutError>
         ensures { result ≡ or_damaged what.Super SUPER_BLOCK (super_of block.now) }
     {
@@ -58,7 +62,7 @@ impl Image for Super {
     fn encode_into(&self, slot: &mut [u8]) {
         let geometry = self.geometry;
         put(slot, 0, MAGIC);
-        put_u32(slot, 8, VERSION);
+        put_u32(slot, 8, self.version);
         put_u32(slot, 12, geometry.units());
         put_u32(slot, 16, geometry.data_blocks(Tier::Fast));
         put_u32(slot, 20, geometry.data_blocks(Tier::Block));
@@ -92,9 +96,15 @@ fn fields_of(bytes: &[u8]) -> Option<(Super, &[u8])>
     let (fast, rest) = u32_of(rest)?;
     let (block, rest) = u32_of(rest)?;
     let (slow, rest) = u32_of(rest)?;
-    if version != VERSION {
+    if !is_version(version) {
         return None;
     }
     let geometry = Geometry::new(units, fast, block, slow)?;
-    Some((Super { geometry }, rest))
+    Some((Super { geometry, version }, rest))
+}
+
+fn is_version(version: u32) -> bool
+    ensures { result ≡ is_version version }
+{
+    version == FIRST_VERSION || version == LAST_VERSION
 }

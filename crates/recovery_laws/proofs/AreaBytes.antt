@@ -10,7 +10,7 @@ use Rattle.layout.specs.Super.{super_spelling, super_text}
 use Rattle.layout.specs.declared.superblock.Super.{Super}
 use Rattle.tier_device.specs.declared.media.Tier.TheVariants.{Fast}
 use Rattle.layout.proofs.file_graph_lemmas.Fields.{u32_long, u64_long}
-use Rattle.recovery_laws.specs.Fresh.{bare_root, no_marks, fresh_fast}
+use Rattle.recovery_laws.specs.Fresh.{fresh_super, bare_root, no_marks, fresh_fast}
 use Rattle.recovery_laws.proofs.Zeros.{padded_is, padded_long}
 use Rattle.recovery_laws.proofs.Slices.{slice_zeros, slice_front, slice_behind, slice_whole}
 
@@ -27,7 +27,7 @@ marks_long = let long : length (marks_text no_marks) ≡ 136 = simp (length-appe
 
 module _ (g : Sizes) where
   abbrev superblock : List ℕ
-  superblock = super_spelling (record { geometry = g })
+  superblock = super_spelling (fresh_super g)
 
   abbrev root : List ℕ
   root = slot_spelling bare_root
@@ -48,7 +48,7 @@ module _ (g : Sizes) where
   size = 4096 * tier_blocks g Fast
 
   head_long : length head ≡ 4224
-  head_long = let a = super_long (record { geometry = g }) in let b = root_long in length-append superblock root ∙ omega (arith, a, b)
+  head_long = let a = super_long (fresh_super g) in let b = root_long in length-append superblock root ∙ omega (arith, a, b)
 
   slots_long : length slots ≡ 135168
   slots_long = padded_long 135168 head (omega (arith, head_long))
@@ -76,12 +76,12 @@ module _ (g : Sizes) where
 
   pub super_there : slice 0 4096 (fresh_fast g) ≡ superblock
   super_there =
-      let long = super_long (record { geometry = g }) in
+      let long = super_long (fresh_super g) in
       in_head 0 4096 (omega arith) ∙ slice_front 0 4096 superblock root (omega (arith, long)) ∙ slice_whole 4096 superblock long
 
   pub root_there : slice 4096 128 (fresh_fast g) ≡ root
   root_there =
-      let long = super_long (record { geometry = g }) in
+      let long = super_long (fresh_super g) in
       in_head 4096 128 (omega arith) ∙ slice_behind 4096 0 128 superblock root (omega (arith, long)) ∙ slice_whole 128 root root_long
 
   pub other_slots : (at : ℕ) → 4224 ≤ at → at + 128 ≤ 135168 → slice at 128 (fresh_fast g) ≡ zeros 128

@@ -29,7 +29,7 @@ use Rattle.digester.specs.batch_journal.Volume.{Spells, IsJournal, HasSizes, IsV
 use Rattle.digester.specs.tree_blocks.Inode.{IsConsistent, inode_of, node_of}
 use Rattle.digester.specs.area_reader.Store.{Store, store_of, slot_bytes, slot_read, slot, root_of, extents_read, place, logical_block, inode, graph, marks}
 use Rattle.digester.specs.area_reader.Format.{SpellsInode, used_block, IsSpelled, IsOpenable}
-use Rattle.recovery_laws.specs.Fresh.{bare_root, no_marks, fresh_fast, fresh_tiers}
+use Rattle.recovery_laws.specs.Fresh.{fresh_super, bare_root, no_marks, fresh_fast, fresh_tiers}
 use Rattle.recovery_laws.proofs.Zeros.{padded_long}
 use Rattle.recovery_laws.proofs.Slices.{slice_slice}
 use Rattle.recovery_laws.proofs.AreaBytes.{fast_long, super_there, root_there, other_slots, marks_there, zeros_behind}
@@ -97,7 +97,7 @@ module _ (supers : (s : Super) → fits_super s ≡ true → super_of (super_spe
   home_is k is = cond-true (is_home k) _ _ is ∙ cond-false (is_gate_open bytes) _ _ shut
 
   super_read : Spells g (home bytes 0)
-  super_read = ap super_of (home_is 0 refl ∙ super_there g) ∙ supers (record { geometry = g }) (allowed g allow)
+  super_read = ap (option_map (λ x. x.geometry)) (ap super_of (home_is 0 refl ∙ super_there g) ∙ supers (fresh_super g) (allowed g allow))
 
   pub area_journal : IsJournal g bytes
   area_journal = record {

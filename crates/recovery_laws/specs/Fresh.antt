@@ -8,11 +8,17 @@ use Rattle.layout.specs.Super.{super_spelling}
 use Rattle.layout.specs.declared.marks.Marks.{Marks}
 use Rattle.layout.specs.declared.marks.TheConstants.{CLIENTS}
 use Rattle.layout.specs.declared.places.TheConstants.{BLOCK, MARKS_BLOCK}
+use Rattle.layout.specs.declared.superblock.Super.{Super}
+use Rattle.layout.specs.declared.superblock.TheConstants.{FIRST_VERSION}
 use Rattle.layout.specs.declared.slot.Slot.{Slot}
 use Rattle.layout.specs.declared.slot.Slot.TheVariants as slot
 use Rattle.tier_device.specs.declared.media.Tier.{Tier}
 use Rattle.tier_device.specs.declared.media.Tier.TheVariants.{Fast, Block, Slow}
 use Rattle.update_log.specs.declared.format.TheConstants.{REGION_SIZE}
+
+-- the superblock of the first version
+abbrev pub fresh_super : Sizes → Super
+fresh_super g = record { geometry = g; version = FIRST_VERSION }
 
 -- a root without entries, which no digest has written
 abbrev pub bare_root : Slot
@@ -25,7 +31,7 @@ no_marks = record { clients = replicate CLIENTS (record { generation = 0; done =
 -- the superblock, the root in the first slot behind it, the marks, and zeros elsewhere
 abbrev pub fresh_fast : Sizes → List ℕ
 fresh_fast g =
-    padded_text (BLOCK * tier_blocks g Fast) (padded_text (BLOCK * MARKS_BLOCK) (super_spelling (record { geometry = g }) ++ slot_spelling bare_root) ++ marks_spelling no_marks)
+    padded_text (BLOCK * tier_blocks g Fast) (padded_text (BLOCK * MARKS_BLOCK) (super_spelling (fresh_super g) ++ slot_spelling bare_root) ++ marks_spelling no_marks)
 
 -- `blocks` blocks of zeros
 abbrev pub fresh_tier : ℕ → List ℕ

@@ -1,12 +1,14 @@
 // The shared area.
 ghost use Rattle.std.specs.Prelude.{◌≡◌, ◌++◌, ◌+◌, length, IfOk, OnOk};
-ghost use Rattle.recovery_laws.specs.Fresh.{bare_root, no_marks, fresh_fast, fresh_tier};
+ghost use Rattle.recovery_laws.specs.Fresh.{fresh_super, bare_root, no_marks, fresh_fast, fresh_tier};
 ghost use Rattle.layout.specs.Marks.{marks_spelling};
 ghost use Rattle.layout.specs.Slot.{slot_spelling};
 ghost use Rattle.layout.specs.Super.{super_spelling};
 
 use crate::zero_fill::fill_up;
-use layout::{BLOCK, CLIENTS, Geometry, MARKS_BLOCK, Mark, Marks, SLOT_SIZE, Slot, Super};
+use layout::{
+    BLOCK, CLIENTS, FIRST_VERSION, Geometry, MARKS_BLOCK, Mark, Marks, SLOT_SIZE, Slot, Super,
+};
 use std::alloc::{AllocError, Global};
 use tier_device::Tier;
 
@@ -27,12 +29,13 @@ pub fn first_fast_tier(alloc: Global, geometry: &Geometry) -> Result<Vec<u8>, Al
 }
 
 fn add_super(bytes: &mut Vec<u8>, geometry: &Geometry) -> Result<(), AllocError>
-    ensures added { OnOk result (bytes.new.items ≡ bytes.old.items ++ super_spelling (record { geometry = geometry.now })) }
+    ensures added { OnOk result (bytes.new.items ≡ bytes.old.items ++ super_spelling (fresh_super geometry.now)) }
     ensures long { OnOk result (length bytes.new.items ≡ length bytes.old.items + BLOCK) }
 {
     let mut block = [0u8; BLOCK];
     let head = Super {
         geometry: *geometry,
+        version: FIRST_VERSION,
     };
     head.encode(&mut block);
     bytes.extend_from_slice(&block)

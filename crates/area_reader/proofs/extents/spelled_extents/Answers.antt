@@ -18,7 +18,7 @@ pub returns-else-not-is_own-clause-own : goal.returns-else-not-is_own-clause-own
 returns-else-not-is_own-clause-own c =
     let own : is_own c.args.list.inode c.args.list.blocks c.in-Ok.found ≡ true = sym c.is_own.ensures ∙ c.if-not-is_own.false in
     let fits = extents_fit c.args.geometry.now c.args.list.space c.args.bytes.now c.in-Ok.found c.in-Ok.ensures in
-    record { owner = owner_same c.args.list.inode c.args.list.blocks c.in-Ok.found own; level = level_zero c.args.geometry.now c.args.list.space c.in-Ok.found fits; fits = fits }
+    record { owner = owner_same c.args.list.inode c.args.list.blocks c.in-Ok.found own; level = level_zero c.args.list.inode c.args.list.blocks c.in-Ok.found own; fits = fits }
 
 pub returns-in-Err-Damaged-clause-damaged : goal.returns-in-Err-Damaged-clause-damaged
 returns-in-Err-Damaged-clause-damaged c =

@@ -1,5 +1,4 @@
-use Rattle.std.proofs.Common.{◌≤◌, ◌<◌, ◌+◌, ◌-◌, arith, get_or, length}
-use Rattle.extent_tree.specs.Nodes.{begin_of, last_end}
+use Rattle.std.proofs.Common.{◌<◌, ◌+◌, ◌-◌, arith, length}
 use Rattle.extent_tree.proofs.Levels.{behind-less, ends-in-order, begins-in-order}
 use Rattle.extent_tree.proofs.leaf_choice.touched_leaves.Goals as goal
 

@@ -8,4 +8,4 @@ pub returns : goal.returns
 returns c g s owner runs inode normal within one =
     let fits = few_below (blocks_in s) 0 4294967295 runs normal.rising (λ k p is. (within k p is).0) (omega arith) in
     let few = few_blocks s in
-    c.map_is_spelled_by_a_block.ensures g s owner runs inode normal within one (omega (arith, fits, few))
+    c.map_is_spelled_by_a_block.ensures g s owner runs inode normal.rising within one (omega (arith, fits, few))

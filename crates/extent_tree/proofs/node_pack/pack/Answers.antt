@@ -1,7 +1,7 @@
-use Rattle.std.proofs.Common.{◌≡◌, ◌<◌, inr, ◌++◌, ◌∷◌, [], ◌-◌, ◌/◌, ap, sym, ◌∙◌, subst, arith, length, length-append, take-append-drop}
+use Rattle.std.proofs.Common.{◌≡◌, ◌≤◌, ◌<◌, inr, ◌++◌, ◌∷◌, [], ◌+◌, ◌-◌, ◌*◌, ◌/◌, ap, sym, ◌∙◌, subst, arith, length, length-append, take-append-drop}
 use Rattle.extent_tree.specs.Nodes.{flat, AreFilled, HaveFrom}
 use Rattle.extent_tree.proofs.Joined.{all-append}
-use Rattle.extent_tree.proofs.Packs.{filled-from, from-less, have-more, flat-pushed, packed-last, packed-all, some-from, none-from}
+use Rattle.extent_tree.proofs.Packs.{filled-from, from-less, have-more, flat-pushed, packed-last, packed-all, pushed-many, packed-more, some-from, none-from}
 use Rattle.extent_tree.proofs.node_pack.pack.Goals as goal
 use Rattle.extent_tree.proofs.node_pack.pack.Goals.{then-not-is_empty+in_ok-from_slice-2+in_ok-push-2, else-not-is_empty}
 
@@ -16,6 +16,8 @@ full-preserved c =
     record {
       parts = ap (λ l. flat l ++ back) pushed ∙ flat-pushed c.full.nodes.items front back ∙ ap (λ l. flat c.full.nodes.items ++ l) whole ∙ c.full.invariant.parts;
       quarters = subst (HaveFrom quarter c.args.width) (sym pushed) (have-more quarter c.args.width c.full.nodes.items front c.full.invariant.quarters (omega (arith, c.split_at.ensures.front_len, c.requires)) (omega (arith, c.split_at.ensures.front_len)));
+      many = subst (λ l. (c.args.width - quarter) * length l + length back ≡ length c.args.entries.now) (sym c.in_ok-push.ensures.items)
+          (pushed-many (c.args.width - quarter) c.full.nodes.items c.in_ok-from_slice.field-0 (length rest) (length back) (length c.args.entries.now) c.full.invariant.many (omega (arith, c.split_at.ensures.back_len, c.full-test.true)));
       begun = inr (omega (arith, c.full-test.true, ap length c.full.invariant.parts, length-append (flat c.full.nodes.items) rest), omega (arith, c.split_at.ensures.back_len, c.full-test.true));
     }
 
@@ -47,4 +49,15 @@ returns-clause-most c =
           subst (λ v. HaveFrom 0 c.args.width v.items) (sym w.nodes-is) (subst (HaveFrom 0 c.args.width) (sym (w.in_ok-push-2.ensures.items ∙ ap (λ n. c.full.nodes.items ++ n ∷ []) w.in_ok-from_slice-2.ensures))
           (have-more 0 c.args.width c.full.nodes.items c.full.rest.now within (omega arith) (omega (arith, c.full-test.false))))
       | else-not-is_empty w ↦ subst (λ v. HaveFrom 0 c.args.width v.items) (sym w.nodes-is) within
+    ]
+
+pub returns-clause-few : goal.returns-clause-few
+returns-clause-few c =
+    let k = c.args.width - c.args.width / 4 in
+    let all = length c.args.entries.now in
+    elim c.if-not-is_empty.branch [
+      | then-not-is_empty+in_ok-from_slice-2+in_ok-push-2 w ↦
+          subst (λ v. k * length v.items ≤ all + k) (sym w.nodes-is) (subst (λ l. k * length l ≤ all + k) (sym w.in_ok-push-2.ensures.items)
+          (packed-more k c.full.nodes.items w.in_ok-from_slice-2.field-0 (length c.full.rest.now) all c.full.invariant.many))
+      | else-not-is_empty w ↦ subst (λ v. k * length v.items ≤ all + k) (sym w.nodes-is) (let many = c.full.invariant.many in omega (arith, many))
     ]

@@ -16,4 +16,4 @@ overflow_add-result g c =
     let e = c.in-Some.extent in
     let at : extent_with c.args.block (flat c.args.leaves.now) ≡ Some e = sym c.find_in-found.ensures.extent ∙ c.in-Some.is in
     let p = has-parts c.args.block e (extent_with-has c.args.block (flat c.args.leaves.now) e at) in
-    omega (arith, found-fits c.args.block (flat c.args.leaves.now) e c.requires.normal.places at, p.0, p.1)
+    omega (arith, found-fits c.args.block (flat c.args.leaves.now) e c.requires.1.spells.places at, p.0, p.1)

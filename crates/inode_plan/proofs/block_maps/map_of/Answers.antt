@@ -27,9 +27,9 @@ has_places x m fast block slow Block k = block k
 has_places x m fast block slow Slow k = slow k
 
 -- no block lies elsewhere than where the law says
-lies_within : (g : Sizes) (p : Space) (i : ℕ) (o : Option ExtentList) → ((v : ExtentList) → fits_extents g p v ≡ true → LiesWithin g p v.extents) → IfSome o (IsOwnList g p i) → LiesWithin g p (extents_in o)
+lies_within : (g : Sizes) (p : Space) (i : ℕ) (o : Option ExtentList) → ((v : ExtentList) → fits_extents g p v ≡ true → v.level ≡ 0 → LiesWithin g p v.extents) → IfSome o (IsOwnList g p i) → LiesWithin g p (extents_in o)
 lies_within g p i None law own = λ b q at. absurd (none-some q at)
-lies_within g p i (Some v) law own = law v own.fits
+lies_within g p i (Some v) law own = law v own.fits own.level
 
 same : (m : List Extent) (xs ys : List Extent) → xs ≡ ys → SamePlaces m xs → SamePlaces m ys
 same m xs ys is at k = at k ∙ ap (λ es. place_of es k) is
@@ -58,4 +58,4 @@ returns-clause-within c i slot own t b p at =
     let g = c.args.geometry.now in
     let x = c.args.found.now in
     let places = has_places x c.in_ok-map.map (same _ _ _ c.block_extents-fast.ensures c.in_ok-map.ensures.fast) (same _ _ _ c.block_extents-block.ensures c.in_ok-map.ensures.block) (same _ _ _ c.block_extents-slow.ensures c.in_ok-map.ensures.slow) in
-    lies_within g (space_of slot t) i (in_tier x t) (λ v fits. c.block_spells_a_map.ensures.within g (space_of slot t) v fits) (own t) b p (sym (places t b) ∙ at)
+    lies_within g (space_of slot t) i (in_tier x t) (λ v fits lowest. c.block_spells_a_map.ensures.within g (space_of slot t) v fits lowest) (own t) b p (sym (places t b) ∙ at)

@@ -10,7 +10,7 @@ use Rattle.layout.proofs.extents.list_of.Goals as goal
 pub returns-in_err-extent : goal.returns-in_err-extent
 returns-in_err-extent c =
     let i = c.loop-index.index in
-    let field = extent_at c.args.geometry.now c.args.space in
+    let field = extent_at c.args.geometry.now c.args.space c.args.level in
     let n = length c.args.list.now in
     ap (option_map (λ x. (c.loop-index.list, x.now))) c.from_residual.ensures
     ∙ sym (ends field (take i c.loop-index.list) n i c.loop-index.rest.now (items_at field n c.args.bytes.now) c.loop-index-test.true (sym c.in_err-extent.ensures) c.loop-index.invariant.1)
@@ -19,7 +19,7 @@ pub loop-index-preserved : goal.loop-index-preserved
 loop-index-preserved c =
     let i = c.loop-index.index in
     let list = c.loop-index.list in
-    let field = extent_at c.args.geometry.now c.args.space in
+    let field = extent_at c.args.geometry.now c.args.space c.args.level in
     let n = length c.args.list.now in
     let within : i < length list = omega (arith, c.loop-index-test.true, c.loop-index.invariant.0) in (
       rw length-set c.loop-index.invariant.0,
@@ -30,7 +30,7 @@ pub returns : goal.returns
 returns c =
     let i = c.loop-index.index in
     let list = c.loop-index.list in
-    let field = extent_at c.args.geometry.now c.args.space in
+    let field = extent_at c.args.geometry.now c.args.space c.args.level in
     let n = length c.args.list.now in
     let all : take i list ≡ list = take_all i list (omega (arith, c.loop-index-test.false, c.loop-index.invariant.0)) in
     ap (λ (es : List Extent). Some (es, c.loop-index.rest.now)) (sym all)

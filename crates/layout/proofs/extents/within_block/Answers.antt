@@ -10,4 +10,4 @@ returns-clause-each c =
     let old = c.args.list.now in
     let few : count ≤ 340 = c.in_ok-head.ensures.few in
     let long : length list ≡ count = omega (arith, c.list_of.auto.list, length-take count old, c.told-list, few) in
-    rw (take_at list _ count long) (extents_have_blocks c.args.geometry.now c.args.space (length (take count old)) c.in_ok-head.rest.now (list, c.in_ok-rest.rest.now) (sym c.in_ok-rest.ensures))
+    rw (take_at list _ count long) (extents_have_blocks c.args.geometry.now c.args.space c.in_ok-head.head.level (length (take count old)) c.in_ok-head.rest.now (list, c.in_ok-rest.rest.now) (sym c.in_ok-rest.ensures))

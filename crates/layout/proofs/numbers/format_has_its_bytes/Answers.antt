@@ -6,6 +6,10 @@ pub returns-clause-superblock : goal.returns-clause-superblock
 unfolding u32 u64 padded_text zeros
 returns-clause-superblock c = refl
 
+pub returns-clause-version_2 : goal.returns-clause-version_2
+unfolding u32 u64 padded_text zeros
+returns-clause-version_2 c = refl
+
 pub returns-clause-free_slot : goal.returns-clause-free_slot
 unfolding u32 u64 padded_text zeros
 returns-clause-free_slot c = refl
@@ -25,6 +29,10 @@ returns-clause-marks c = refl
 pub returns-clause-extents : goal.returns-clause-extents
 unfolding u32 u64 padded_text zeros
 returns-clause-extents c = refl
+
+pub returns-clause-covers : goal.returns-clause-covers
+unfolding u32 u64 padded_text zeros
+returns-clause-covers c = refl
 
 pub returns-clause-entries : goal.returns-clause-entries
 unfolding u32 u64 padded_text zeros

@@ -1,5 +1,5 @@
-use Rattle.std.proofs.Common.{◌≡◌, ◌∙◌, ℕ, List, ap, length}
-use Rattle.layout.specs.Directory.{block_entries, IsRead}
+use Rattle.std.proofs.Common.{◌∙◌, ℕ, List, ap}
+use Rattle.layout.specs.Directory.{block_entries}
 use Rattle.layout.proofs.Fields.{some_is}
 use Rattle.layout.proofs.DirChanges.{head_now, listed_now, fit_parts}
 use Rattle.layout.proofs.dir_entries.DirEntries.from_known.Goals as goal
