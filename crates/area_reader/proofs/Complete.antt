@@ -17,13 +17,17 @@ use Rattle.batch_journal.specs.layout.Places.{Sizes, is_inode, slot_block}
 use Rattle.batch_journal.specs.layout.Slot.{slot_of}
 use Rattle.batch_journal.specs.layout.Directory.{block_entries, fits_entries, entries_spelling}
 use Rattle.extent_tree.specs.Places.{place_of}
+use Rattle.extent_tree.specs.Trees.{runs_of}
 use Rattle.batch_journal.specs.Volume.{Spells}
 use Rattle.tree_blocks.specs.Inode.{IsConsistent, IsConsistentBy, IsDirectoryBlock, AreDistinct, byte_of, entry_at, entries_in, blocks_for, LogicalBlocks}
-use Rattle.area_reader.specs.Store.{Store, slot, slot_bytes, slot_read, root_of, length_of, extents_read, place, logical_block, inode, graph, marks}
+use Rattle.area_reader.specs.Store.{Store, slot, slot_bytes, slot_read, root_of, length_of, extents_read, tier_covers, place_begun, leaf_place, place, logical_block, inode, graph, marks}
+use Rattle.area_reader.specs.Uses.{UsePart}
+use Rattle.area_reader.specs.Uses as uses
+use Rattle.area_reader.specs.Map.{tree_below, root_in}
 use Rattle.area_reader.specs.Format.{Use, used_block, AreUsedOnce, IsOpenable}
 use Rattle.area_reader.specs.Damage.{IsDamaged, byte_in}
 use Rattle.area_reader.proofs.Damages.{option_cases, is_some_at, at_fast, at_block, at_slow, at_none, length_is, blocks_is, none_read, no_entries}
-use Rattle.area_reader.proofs.Shown.{extents_none}
+use Rattle.area_reader.proofs.Shown.{extents_none, extents_some as extents_some_by, covers_none, map_none}
 
 tier_cases : (t u : Tier) → (t ≡ u) ⊎ (t ≢ u)
 tier_cases Fast Fast = inl refl
@@ -36,20 +40,25 @@ tier_cases Slow Fast = inr (λ e. cc)
 tier_cases Slow Block = inr (λ e. cc)
 tier_cases Slow Slow = inl refl
 
-logical_cases : (a b : Option ℕ) → (a ≡ b) ⊎ (a ≢ b)
-logical_cases None None = inl refl
-logical_cases None (Some y) = inr (λ e. cc)
-logical_cases (Some x) None = inr (λ e. cc)
-logical_cases (Some x) (Some y) = elim (cases_eq x y) [ inl e ↦ inl (ap Some e) | inr other ↦ inr (λ e. other cc) ]
+use_part_cases : (a b : UsePart) → (a ≡ b) ⊎ (a ≢ b)
+use_part_cases uses.Root uses.Root = inl refl
+use_part_cases uses.Root (uses.Leaf y) = inr (λ e. cc)
+use_part_cases uses.Root (uses.Block y) = inr (λ e. cc)
+use_part_cases (uses.Leaf x) uses.Root = inr (λ e. cc)
+use_part_cases (uses.Leaf x) (uses.Leaf y) = elim (cases_eq x y) [ inl e ↦ inl (ap uses.Leaf e) | inr other ↦ inr (λ e. other cc) ]
+use_part_cases (uses.Leaf x) (uses.Block y) = inr (λ e. cc)
+use_part_cases (uses.Block x) uses.Root = inr (λ e. cc)
+use_part_cases (uses.Block x) (uses.Leaf y) = inr (λ e. cc)
+use_part_cases (uses.Block x) (uses.Block y) = elim (cases_eq x y) [ inl e ↦ inl (ap uses.Block e) | inr other ↦ inr (λ e. other cc) ]
 
 use_cases : (u v : Use) → (u ≡ v) ⊎ (v ≢ u)
 use_cases u v = elim (cases_eq u.inode v.inode) [
   | inr other ↦ inr (λ e. other (ap (λ (x : Use). x.inode) (sym e)))
   | inl one ↦ elim (tier_cases u.tier v.tier) [
     | inr other ↦ inr (λ e. other (ap (λ (x : Use). x.tier) (sym e)))
-    | inl two ↦ elim (logical_cases u.logical v.logical) [
-      | inr other ↦ inr (λ e. other (ap (λ (x : Use). x.logical) (sym e)))
-      | inl three ↦ inl (λ p. record { inode = one p; tier = two p; logical = three p })
+    | inl two ↦ elim (use_part_cases u.part v.part) [
+      | inr other ↦ inr (λ e. other (ap (λ (x : Use). x.part) (sym e)))
+      | inl three ↦ inl (λ p. record { inode = one p; tier = two p; part = three p })
     ]
   ]
 ]
@@ -83,11 +92,16 @@ root_some g s i t k some zero' =
 no_some_here : (o : Option (Tier × ℕ)) (b : Tier × ℕ) → o ≡ None → o ≡ Some b → ⊥
 no_some_here o b none some = let e : None ≡ Some b = sym none ∙ some in false≢true (ap is_some e)
 
-pub used_root : (g : Sizes) (s : Store) (i : ℕ) (t : Tier) (k : Option ℕ) (b : Tier × ℕ) → used_block g s (record { inode = i; tier = t; logical = k }) ≡ Some b → root_of (slot g s i) t ≢ 0
-used_root g s i t None b is zero' = no_some_here (used_block g s (record { inode = i; tier = t; logical = None })) b (cond-true (root_of (slot g s i) t == 0) _ _ (ap (λ r. r == 0) zero')) is
-used_root g s i t (Some k) b is zero' = elim (option_cases (place g s i t k)) [
+leaf_none : (g : Sizes) (s : Store) (i : ℕ) (t : Tier) (k : ℕ) → root_of (slot g s i) t ≡ 0 → leaf_place g s i t k ≡ None
+unfolding tier_covers
+leaf_none g s i t k zero' = ap (λ cs. place_begun cs k) (covers_none g (s Fast) (slot g s i) t zero')
+
+pub used_root : (g : Sizes) (s : Store) (i : ℕ) (t : Tier) (k : UsePart) (b : Tier × ℕ) → used_block g s (record { inode = i; tier = t; part = k }) ≡ Some b → root_of (slot g s i) t ≢ 0
+used_root g s i t (uses.Leaf k) b is zero' = no_some_here (used_block g s (record { inode = i; tier = t; part = uses.Leaf k })) b (ap (option_map (λ p. (Fast, p))) (leaf_none g s i t k zero')) is
+used_root g s i t uses.Root b is zero' = no_some_here (used_block g s (record { inode = i; tier = t; part = uses.Root })) b (cond-true (root_of (slot g s i) t == 0) _ _ (ap (λ r. r == 0) zero')) is
+used_root g s i t (uses.Block k) b is zero' = elim (option_cases (place g s i t k)) [
   | inl (p, there) ↦ root_some g s i t k (is_some_at _ p there) zero'
-  | inr none ↦ no_some_here (used_block g s (record { inode = i; tier = t; logical = Some k })) b (ap (option_map (λ p. (t, p))) none) is
+  | inr none ↦ no_some_here (used_block g s (record { inode = i; tier = t; part = uses.Block k })) b (ap (option_map (λ p. (t, p))) none) is
 ]
 
 pub root_inode : (g : Sizes) (s : Store) (i : ℕ) (t : Tier) → root_of (slot g s i) t ≢ 0 → is_inode i ≡ true
@@ -96,6 +110,11 @@ root_inode g s i t some = elim (cases_Bool (is_inode i)) [
   | inl is ↦ is
   | inr other ↦ absurd (some (ap (λ o. root_of (unwrap_or o slots.Free) t) (cond-false (is_inode i) (slot_of g (slot_bytes s i)) None other)))
 ]
+
+-- no extents are read where there is no tree
+no_tree : (g : Sizes) (s : Store) (i : ℕ) (t : Tier) → root_of (slot g s i) t ≢ 0 → extents_read g s i t ≡ None → tree_below g (s Fast) (root_in i (slot g s i) t) ≡ None
+unfolding extents_read
+no_tree g s i t some none = map_none runs_of (tree_below g (s Fast) (root_in i (slot g s i) t)) (sym (extents_some_by g (s Fast) i (slot g s i) t some) ∙ none)
 
 module _ (g : Sizes) (s : Store) (sound : (w : What) (b : ℕ) → IsDamaged g s w b → ⊥) where
   slot_some : (i : ℕ) → is_inode i ≡ true → IsSome (slot_read g s i)
@@ -109,7 +128,7 @@ module _ (g : Sizes) (s : Store) (sound : (w : What) (b : ℕ) → IsDamaged g s
     | inl zero' ↦ is_some_at _ [] (extents_zero g s i t zero')
     | inr some ↦ elim (option_cases (extents_read g s i t)) [
       | inl (x, is) ↦ is_some_at _ x is
-      | inr none ↦ absurd (sound what.ExtentBlock (root_of (slot g s i) t) (inr (inl (record { structure = refl; inode = i; is = number; tier = t; some = some; at = refl; wrong = inl none }))))
+      | inr none ↦ absurd (sound what.ExtentBlock (root_of (slot g s i) t) (inr (inl (record { structure = refl; inode = i; is = number; tier = t; some = some; wrong = inl (record { none = no_tree g s i t some none; shown = inl refl }) }))))
     ]
   ]
 
@@ -122,8 +141,7 @@ module _ (g : Sizes) (s : Store) (sound : (w : What) (b : ℕ) → IsDamaged g s
       is = number;
       tier = t;
       some = root_some g s i t k here;
-      at = refl;
-      wrong = inr (record { other = u; block = k; differ = λ e. differ (sym e); here = here; there = there });
+      wrong = inr (refl, record { other = u; block = k; differ = λ e. differ (sym e); here = here; there = there });
     }))))
   ]
 
@@ -203,7 +221,7 @@ module _ (g : Sizes) (s : Store) (sound : (w : What) (b : ℕ) → IsDamaged g s
           inode = u.inode;
           tier = u.tier;
           at = refl;
-          shared = record { logical = u.logical; other = v; block = b; differ = differ; here = here; there = there };
+          shared = record { part = u.part; other = v; block = b; differ = differ; here = here; there = there };
         }))))))))
   ]
 

@@ -1,6 +1,6 @@
 -- What is damaged spells no graph.
 use Rattle.std.proofs.Common.{◌≡◌, ◌≢◌, ◌≤◌, ◌<◌, ◌/◌, ℕ, [], true, refl, sym, ◌∙◌, ap, subst, arith, Option, Some, None, inl, inr, ◌⊎◌}
-use Rattle.std.specs.Prelude.{IsSome, unwrap_or}
+use Rattle.std.specs.Prelude.{IsSome, option_map, unwrap_or}
 use Rattle.std.proofs.lemmas.Bool.{false≢true}
 use Rattle.tier_device.specs.declared.media.Tier.{Tier}
 use Rattle.tier_device.specs.declared.media.Tier.TheVariants.{Fast, Block, Slow}
@@ -13,9 +13,12 @@ use Rattle.batch_journal.specs.layout.Places.{Sizes, is_inode}
 use Rattle.batch_journal.specs.layout.Directory.{block_entries}
 use Rattle.batch_journal.specs.layout.declared.places.TheConstants.{BLOCK}
 use Rattle.extent_tree.specs.Places.{place_of}
+use Rattle.extent_tree.specs.Trees.{runs_of}
 use Rattle.tree_blocks.specs.Inode.{IsConsistent, IsConsistentBy, AreDirectoryBlocks, IsDirectoryBlock, IsZeroFrom, Inode, inode_of, blocks_for, byte_of, entry_at, LogicalBlocks}
-use Rattle.area_reader.specs.Store.{Store, slot, length_of, extents_by, extents_read, place, at_or, logical_block, inode}
+use Rattle.area_reader.specs.Store.{Store, slot, root_of, length_of, extents_by, extents_read, place, at_or, logical_block, inode}
+use Rattle.area_reader.specs.Map.{tree_below, root_in}
 use Rattle.area_reader.specs.Format.{SpellsInode, IsSpelled, KeepsUnits}
+use Rattle.area_reader.proofs.Shown.{extents_some}
 use Rattle.area_reader.specs.Damage.{LacksBlock, IsMappedTwice, IsShared, HasTwin, byte_in, IsDamaged}
 
 pub no_some : {A : Type 0} (o : Option A) → o ≡ None → IsSome o → ⊥
@@ -140,7 +143,12 @@ module _ (g : Sizes) (s : Store) (i : ℕ) (number : is_inode i ≡ true) (is : 
       wrong (ap (λ b. byte_in b at) (sym (logical_is g s i is.once t (at / BLOCK) p there)) ∙ here)
 
 no_shared : (g : Sizes) (s : Store) (i : ℕ) (t : Tier) → IsSpelled g s → IsShared g s i t → ⊥
-no_shared g s i t is shared = shared.differ (is.apart shared.other (record { inode = i; tier = t; logical = shared.logical }) shared.block shared.there shared.here)
+no_shared g s i t is shared = shared.differ (is.apart shared.other (record { inode = i; tier = t; part = shared.part }) shared.block shared.there shared.here)
+
+-- without a tree no extents are read
+none_told : (g : Sizes) (s : Store) (i : ℕ) (t : Tier) → root_of (slot g s i) t ≢ 0 → tree_below g (s Fast) (root_in i (slot g s i) t) ≡ None → extents_read g s i t ≡ None
+unfolding extents_read
+none_told g s i t some none = extents_some g (s Fast) i (slot g s i) t some ∙ ap (option_map runs_of) none
 
 pub damage_none : (g : Sizes) (s : Store) (what : What) (block : ℕ) → IsDamaged g s what block → IsSpelled g s → KeepsUnits g s → ⊥
 damage_none g s what block (inl x) is units = elim (x.wrong) [
@@ -148,8 +156,8 @@ damage_none g s what block (inl x) is units = elim (x.wrong) [
   | inr lack ↦ no_lack g s x.inode x.is (is.inodes x.inode x.is) lack
 ]
 damage_none g s what block (inr (inl x)) is units = elim (x.wrong) [
-  | inl none ↦ no_some _ none ((is.inodes x.inode x.is).extents x.tier)
-  | inr twice ↦ no_twice g s x.inode x.is (is.inodes x.inode x.is) x.tier twice
+  | inl shows ↦ no_some _ (none_told g s x.inode x.tier x.some shows.none) ((is.inodes x.inode x.is).extents x.tier)
+  | inr twice ↦ no_twice g s x.inode x.is (is.inodes x.inode x.is) x.tier twice.1
 ]
 damage_none g s what block (inr (inr (inl x))) is units = elim (x.wrong) [
   | inl wrong ↦ no_part g s x.inode x.is (is.inodes x.inode x.is) x.kind x.number x.within wrong

@@ -21,7 +21,7 @@ use Rattle.area_reader.specs.declared.tiers.InodeExtents.{InodeExtents}
 use Rattle.area_reader.proofs.Parts.{slot_as}
 use Rattle.area_reader.proofs.Damages.{is_some_at, blocks_is}
 use Rattle.area_reader.proofs.Complete.{root_some}
-use Rattle.area_reader.proofs.Lists.{place_placed}
+use Rattle.area_reader.proofs.Placed.{place_placed}
 use Rattle.area_reader.proofs.Tails.{place_is}
 
 pub few_entries : (g : Sizes) (names entries touch root : ℕ) → fits_slot g (slots.Directory names entries touch root) ≡ true → entries ≤ MAX_ENTRIES
@@ -89,8 +89,7 @@ module _ (g : Sizes) (s : Store) (i : ℕ) where
             is = number;
             tier = t;
             some = root_some g s i t k here;
-            at = is ∙ ap (λ (y : Slot). root_of y t) (sym (slot_as g s i x read));
-            wrong = inr (record { other = twice.other; block = k; differ = twice.differ; here = here; there = there });
+            wrong = inr (is ∙ ap (λ (y : Slot). root_of y t) (sym (slot_as g s i x read)), record { other = twice.other; block = k; differ = twice.differ; here = here; there = there });
           };
           of_it = refl;
         }

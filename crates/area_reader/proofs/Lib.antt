@@ -5,6 +5,9 @@ pub mod Shown
 pub mod Parts
 pub mod Rewriting
 pub mod Lists
+pub mod Trees
+pub mod Placed
+pub mod TreeReads
 pub mod Complete
 pub mod Torn
 pub mod Tails

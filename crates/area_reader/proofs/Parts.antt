@@ -14,7 +14,7 @@ use Rattle.area_reader.specs.declared.tiers.InodeExtents.{InodeExtents}
 use Rattle.area_reader.specs.Store.{Store, slot, slot_read, root_of, extents_by, extents_read}
 use Rattle.area_reader.specs.Damage.{OnDamage, IsDamaged}
 use Rattle.area_reader.specs.Checks.{HasFound, IsOwnDamage}
-use Rattle.area_reader.specs.Map.{in_tier, extents_in, HasAllExtents, IsPartDamage}
+use Rattle.area_reader.specs.Map.{in_tier, extents_in, root_in, ShowsNoTree, HasAllExtents, IsPartDamage}
 
 pub on_damage : {P Q : What → ℕ → Type 0} (e : AreaError) → ((w : What) (block : ℕ) → P w block → Q w block) → OnDamage e P → OnDamage e Q
 on_damage errors.DeviceFault f p = tt
@@ -47,8 +47,7 @@ module _ (g : Sizes) (s : Store) (i : ℕ) where
       is = number;
       tier = has.tier;
       some = λ e. has.some (ap (λ x. root_of x has.tier) (sym (slot_as x is)) ∙ e);
-      at = has.at ∙ ap (λ x. root_of x has.tier) (sym (slot_as x is));
-      wrong = inl (extents_as x has.tier is ∙ has.none);
+      wrong = inl (subst (λ (y : Slot). ShowsNoTree g (s Fast) (root_in i y has.tier) block) (sym (slot_as x is)) has.shows);
     };
     of_it = refl;
   }))

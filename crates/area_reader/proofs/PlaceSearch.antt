@@ -1,7 +1,8 @@
--- Where a logical block lies, by the extent block that the slot of its inode names.
-use Rattle.std.proofs.Common.{◌≡◌, ◌≢◌, ◌≤◌, ◌∙◌, ℕ, List, [], true, Option, Some, None, refl, sym, ap, subst, arith, inl, inr}
-use Rattle.std.specs.Prelude.{Result, Ok, Err, IfOk, IfNone, IsSome, unwrap_or}
+-- Where a logical block lies, by the root that the slot of its inode names.
+use Rattle.std.proofs.Common.{◌≡◌, ◌≢◌, ◌≤◌, ◌∙◌, ℕ, List, [], ◌∷◌, true, Option, Some, None, refl, sym, ap, subst, arith, inl, inr}
+use Rattle.std.specs.Prelude.{Result, Ok, Err, IfOk, IfSome, IfNone, IsSome, option_map, unwrap_or}
 use Rattle.std.proofs.lemmas.Bool.{cases_Bool, cond-false, false≢true}
+use Rattle.std.proofs.lemmas.List.{append-nil}
 use Rattle.tier_device.specs.declared.media.Tier.{Tier}
 use Rattle.tier_device.specs.declared.media.Tier.TheVariants.{Fast, Block, Slow}
 use Rattle.batch_journal.specs.layout.declared.extents.Extent.{Extent}
@@ -10,10 +11,21 @@ use Rattle.batch_journal.specs.layout.declared.slot.Slot.{Slot}
 use Rattle.batch_journal.specs.layout.Places.{Sizes, is_inode, is_node}
 use Rattle.batch_journal.specs.layout.Slot.{slot_of, fits_slot}
 use Rattle.batch_journal.specs.layout.Extents.{ExtentList, extents_of}
-use Rattle.extent_tree.specs.Places.{place_of}
-use Rattle.area_reader.specs.Store.{Store, slot, slot_bytes, slot_read, root_of, space_of, length_of, is_own, own_extents, extents_read, place}
+use Rattle.batch_journal.specs.layout.Bytes.{◌>>=◌}
+use Rattle.batch_journal.specs.Blocks.{Blocks}
+use Rattle.extent_tree.specs.Nodes.{flat}
+use Rattle.extent_tree.specs.Places.{has, extent_with, place_of}
+use Rattle.extent_tree.specs.Trees.{Leaf, Tree, runs_of, leaves_at, leaves_below}
+use Rattle.extent_tree.proofs.Maps.{at-here, at-later}
+use Rattle.extent_tree.proofs.Spelled.{list-parts}
+use Rattle.extent_tree.proofs.TreeLaws.{tree_parts}
+use Rattle.area_reader.specs.Store.{Store, slot, slot_bytes, slot_read, root_of, length_of, deepest, extents_read, place}
+use Rattle.area_reader.specs.Map.{tree_below, leaf_below, root_in}
+use Rattle.area_reader.specs.declared.trees.TreePlace.{TreePlace}
 use Rattle.area_reader.specs.Format.{IsSpelled}
-use Rattle.area_reader.proofs.Lists.{bind_some, test_some, slot_here_fits, place_placed}
+use Rattle.area_reader.proofs.Lists.{some_is, slot_here_fits, extents_fit}
+use Rattle.area_reader.proofs.Placed.{place_placed}
+use Rattle.area_reader.proofs.Trees.{listed, leaves_parts, lowest_below, above_below, covered}
 use Rattle.area_reader.proofs.Parts.{slot_as, extents_as}
 use Rattle.area_reader.proofs.Shown.{slot_limits, extents_none, extents_some}
 
@@ -31,24 +43,74 @@ module _ (g : Sizes) (s : Store) (i : ℕ) (x : Slot) (read : slot_read g s i �
   pub root_pooled : root_of x t ≢ 0 → is_node g (root_of x t) ≡ true
   root_pooled some = (slot_limits g x (subst (λ (y : Slot). fits_slot g y ≡ true) (slot_as g s i x read) (slot_here_fits g s i))).roots t some
 
-  -- without an extent block no logical block has a place
+  -- without a root no logical block has a place
   pub rootless : (k : ℕ) → root_of x t ≡ 0 → place g s i t k ≡ None
   rootless k zero = ap (λ (o : Option (List Extent)). place_of (unwrap_or o []) k) (extents_as g s i x t read ∙ extents_none g (s Fast) i x t zero)
 
-  -- an extent block spells a list, which tells where each lies
-  pub list_tells : IsSpelled g s → root_of x t ≢ 0 → (v : ExtentList) × (extents_of g (space_of x t) (s Fast (root_of x t)) ≡ Some v) × ((k : ℕ) → place g s i t k ≡ place_of v.extents k)
-  unfolding own_extents
-  list_tells spelled some = by (extents_read g s i t) refl ((spelled.inodes i number).extents t)
-    where
-      told : extents_read g s i t ≡ own_extents g (space_of x t) i (length_of x) (s Fast (root_of x t))
-      told = extents_as g s i x t read ∙ extents_some g (s Fast) i x t some
+  told : root_of x t ≢ 0 → extents_read g s i t ≡ option_map runs_of (tree_below g (s Fast) (root_in i x t))
+  told some = extents_as g s i x t read ∙ extents_some g (s Fast) i x t some
 
-      by : (o : Option (List Extent)) → extents_read g s i t ≡ o → IsSome o → (v : ExtentList) × (extents_of g (space_of x t) (s Fast (root_of x t)) ≡ Some v) × ((k : ℕ) → place g s i t k ≡ place_of v.extents k)
+  -- below a root there is a tree, which tells where each lies
+  pub tree_there : IsSpelled g s → root_of x t ≢ 0 → IsSome (tree_below g (s Fast) (root_in i x t))
+  tree_there spelled some = by (tree_below g (s Fast) (root_in i x t)) refl (subst IsSome (told some) ((spelled.inodes i number).extents t))
+    where
+      by : (o : Option Tree) → tree_below g (s Fast) (root_in i x t) ≡ o → IsSome (option_map runs_of o) → IsSome o
       by None is there = absurd (false≢true there)
-      by (Some es) is there =
-          let b = bind_some (extents_of g (space_of x t) (s Fast (root_of x t))) _ es (sym told ∙ is) in
-          let own = test_some (is_own i (length_of x) b.0) b.0.extents es b.2 in
-          (b.0, b.1, λ k. ap (λ (o : Option (List Extent)). place_of (unwrap_or o []) k) is ∙ ap (λ (l : List Extent). place_of l k) (sym own.1))
+      by (Some tree) is there = refl
+
+  pub tree_places : root_of x t ≢ 0 → (k : ℕ) (found : Option ℕ) → IsSome (tree_below g (s Fast) (root_in i x t)) → IfSome (tree_below g (s Fast) (root_in i x t)) (λ tree. found ≡ place_of (runs_of tree) k) → found ≡ place g s i t k
+  tree_places some k found there is = by (tree_below g (s Fast) (root_in i x t)) there is ∙ sym (ap (λ (o : Option (List Extent)). place_of (unwrap_or o []) k) (told some))
+    where
+      by : (o : Option Tree) → IsSome o → IfSome o (λ tree. found ≡ place_of (runs_of tree) k) → found ≡ place_of (unwrap_or (option_map runs_of o) []) k
+      by None there is = absurd (false≢true there)
+      by (Some tree) there is = is
+
+-- ---- down a tree
+
+-- the entry of a root leads to the leaf that has a block
+module _ (g : Sizes) (fast : Blocks) (at : TreePlace) (b : ℕ) (v : ExtentList) (read : extents_of g at.space (fast at.root) ≡ Some v) where
+  -- at level 0 it has it itself
+  pub found_lowest : v.level ≡ 0 → IfSome (tree_below g fast at) (λ tree. extent_with b (runs_of tree) ≡ extent_with b v.extents)
+  found_lowest lowest = by (tree_below g fast at) refl
+    where
+      by : (o : Option Tree) → tree_below g fast at ≡ o → IfSome o (λ tree. extent_with b (runs_of tree) ≡ extent_with b v.extents)
+      by None is = tt
+      by (Some tree) is =
+          let parts = tree_parts g at.space at.inode (deepest fast) at.blocks fast at.root tree is in
+          let same : parts.list ≡ v = some_is parts.list v (sym parts.spelled ∙ read) in
+          let leaves = some_is (record { block = at.root; entries = v.extents } ∷ []) tree.leaves (sym (lowest_below g at.space at.inode fast at.root v lowest) ∙ ap (leaves_below g at.space at.inode fast at.root) (sym same) ∙ parts.below) in
+          ap (λ (ls : List Leaf). extent_with b (flat (listed ls))) (sym leaves) ∙ ap (extent_with b) (append-nil v.extents)
+
+  pub found_above : v.level ≢ 0 → IfSome (tree_below g fast at) (λ tree. extent_with b (runs_of tree) ≡ (extent_with b v.extents >>= λ c. leaf_below g fast at c >>= λ l. extent_with b l.entries))
+  found_above above = by (tree_below g fast at) refl
+    where
+      by : (o : Option Tree) → tree_below g fast at ≡ o → IfSome o (λ tree. extent_with b (runs_of tree) ≡ (extent_with b v.extents >>= λ c. leaf_below g fast at c >>= λ l. extent_with b l.entries))
+      by None is = tt
+      by (Some tree) is =
+          let parts = tree_parts g at.space at.inode (deepest fast) at.blocks fast at.root tree is in
+          let same : parts.list ≡ v = some_is parts.list v (sym parts.spelled ∙ read) in
+          let below = sym (above_below g at.space at.inode fast at.root v above) ∙ ap (leaves_below g at.space at.inode fast at.root) (sym same) ∙ parts.below in
+          covered g at.space at.inode fast 0 v.extents tree.leaves (list-parts g at.space v (extents_fit g at.space (fast at.root) v read)).sorted below b
+
+  -- what has an entry has its leaf
+  pub leaf_there : v.level ≢ 0 → IsSome (tree_below g fast at) → (c : Extent) → extent_with b v.extents ≡ Some c → IsSome (leaf_below g fast at c)
+  leaf_there above there c is = by (tree_below g fast at) refl there
+    where
+      first : (cs : List Extent) (ls : List Leaf) → leaves_at g at.space at.inode fast cs ≡ Some ls → extent_with b cs ≡ Some c → IsSome (leaf_below g fast at c)
+      first [] ls e is = absurd cc
+      first (d ∷ cs) ls e is =
+          let x = leaves_parts g at.space at.inode fast d cs ls e in
+          elim (cases_Bool (has b d)) [
+            | inl its ↦ let same : d ≡ c = some_is d c (sym (at-here b d cs its) ∙ is) in subst (λ (c : Extent). IsSome (leaf_below g fast at c)) same (subst IsSome (sym x.read) refl)
+            | inr other ↦ first cs x.others x.rest (sym (at-later b d cs other) ∙ is)
+          ]
+
+      by : (o : Option Tree) → tree_below g fast at ≡ o → IsSome o → IsSome (leaf_below g fast at c)
+      by None is' there = absurd (false≢true there)
+      by (Some tree) is' there =
+          let parts = tree_parts g at.space at.inode (deepest fast) at.blocks fast at.root tree is' in
+          let same : parts.list ≡ v = some_is parts.list v (sym parts.spelled ∙ read) in
+          first v.extents tree.leaves (sym (above_below g at.space at.inode fast at.root v above) ∙ ap (leaves_below g at.space at.inode fast at.root) (sym same) ∙ parts.below) is
 
 -- no inode has a logical block behind those of the greatest file
 pub none_behind : (g : Sizes) (s : Store) (i : ℕ) (t : Tier) (k : ℕ) → FILE_BLOCKS ≤ k → place g s i t k ≡ None

@@ -7,7 +7,9 @@ use Rattle.tier_device.specs.declared.media.Tier.{Tier}
 use Rattle.tier_device.specs.declared.media.Tier.TheVariants.{Fast}
 use Rattle.batch_journal.specs.layout.Places.{Sizes, is_inode, slot_block}
 use Rattle.batch_journal.specs.Volume.{Spells}
-use Rattle.area_reader.specs.Store.{Store, slot, root_of, place, inode}
+use Rattle.area_reader.specs.Store.{Store, slot, root_of, place, leaf_place, inode}
+use Rattle.area_reader.specs.Uses.{UsePart}
+use Rattle.area_reader.specs.Uses as uses
 use Rattle.area_reader.specs.Reads.{InodeReads, IsRoom, Free, Untouched}
 use Rattle.area_reader.specs.Format.{SpellsInode, Use, used_block, AreUsedOnce, IsSpelled}
 use Rattle.area_reader.specs.Rewrites.{Rewrites}
@@ -15,10 +17,13 @@ use Rattle.area_reader.proofs.Frames.{inode-kept, spells-kept, block_for-kept}
 
 -- ---- uses
 
-root_use : (g : Sizes) (s : Store) (i : ℕ) (t : Tier) → root_of (slot g s i) t ≢ 0 → used_block g s (record { inode = i; tier = t; logical = None }) ≡ Some (Fast, root_of (slot g s i) t)
+root_use : (g : Sizes) (s : Store) (i : ℕ) (t : Tier) → root_of (slot g s i) t ≢ 0 → used_block g s (record { inode = i; tier = t; part = uses.Root }) ≡ Some (Fast, root_of (slot g s i) t)
 root_use g s i t some = cond-false (root_of (slot g s i) t == 0) None (Some (Fast, root_of (slot g s i) t)) (ne_eqb (root_of (slot g s i) t) 0 some)
 
-place_use : (g : Sizes) (s : Store) (i : ℕ) (t : Tier) (j k : ℕ) → place g s i t j ≡ Some k → used_block g s (record { inode = i; tier = t; logical = Some j }) ≡ Some (t, k)
+leaf_use : (g : Sizes) (s : Store) (i : ℕ) (t : Tier) (j k : ℕ) → leaf_place g s i t j ≡ Some k → used_block g s (record { inode = i; tier = t; part = uses.Leaf j }) ≡ Some (Fast, k)
+leaf_use g s i t j k is = ap (option_map (λ p. (Fast, p))) is
+
+place_use : (g : Sizes) (s : Store) (i : ℕ) (t : Tier) (j k : ℕ) → place g s i t j ≡ Some k → used_block g s (record { inode = i; tier = t; part = uses.Block j }) ≡ Some (t, k)
 place_use g s i t j k is = ap (option_map (λ p. (t, p))) is
 
 -- ---- what stays
@@ -26,16 +31,18 @@ place_use g s i t j k is = ap (option_map (λ p. (t, p))) is
 module _ (g : Sizes) (rewritten : ℕ → Bool) (old new : Store) (is : Rewrites g rewritten old new) where
   untouched : (i : ℕ) → rewritten i ≡ false → Untouched g old new i
   untouched i other = record {
+    superblock = is.superblock;
     slot_is = λ number. is.slots_stay i number other;
-    roots = λ u some. is.blocks_stay (record { inode = i; tier = u; logical = None }) (Fast, root_of (slot g old i) u) other (root_use g old i u some);
-    mapped = λ t j k at. is.blocks_stay (record { inode = i; tier = t; logical = Some j }) (t, k) other (place_use g old i t j k at);
+    roots = λ u some. is.blocks_stay (record { inode = i; tier = u; part = uses.Root }) (Fast, root_of (slot g old i) u) other (root_use g old i u some);
+    leaves = λ u j k at. is.blocks_stay (record { inode = i; tier = u; part = uses.Leaf j }) (Fast, k) other (leaf_use g old i u j k at);
+    mapped = λ t j k at. is.blocks_stay (record { inode = i; tier = t; part = uses.Block j }) (t, k) other (place_use g old i t j k at);
   }
 
   pub other_inode : (i : ℕ) → rewritten i ≡ false → inode g new i ≡ inode g old i
   other_inode i other = inode-kept g old new i (untouched i other)
 
   pub other_use : (u : Use) → rewritten u.inode ≡ false → used_block g new u ≡ used_block g old u
-  other_use u other = block_for-kept g old new u.inode (untouched u.inode other) u.tier u.logical
+  other_use u other = block_for-kept g old new u.inode (untouched u.inode other) u.tier u.part
 
 module _ (g : Sizes) (rewritten : ℕ → Bool) (old new : Store) (before : IsSpelled g old) (is : Rewrites g rewritten old new) where
   new_inodes : (i : ℕ) → is_inode i ≡ true → SpellsInode g new i
@@ -91,21 +98,25 @@ use_of_place t u k None is = cc
 use_of_place t u k (Some p) is = (sym (ap tier_in is), ap (λ b. Some (block_in b)) is)
 
 module _ (g : Sizes) (s : Store) (t : Tier) (k : ℕ) where
-  use_reads : (i : ℕ) (u : Tier) (j : Option ℕ) → used_block g s (record { inode = i; tier = u; logical = j }) ≡ Some (t, k) → InodeReads g s i t k
-  use_reads i u None is =
+  use_reads : (i : ℕ) (u : Tier) (j : UsePart) → used_block g s (record { inode = i; tier = u; part = j }) ≡ Some (t, k) → InodeReads g s i t k
+  use_reads i u uses.Root is =
       let p = use_of_root t k (root_of (slot g s i) u) is in
       inr (inl (u, p.0, p.1.0, p.1.1))
-  use_reads i u (Some j) is =
+  use_reads i u (uses.Leaf j) is =
+      let p = use_of_place t Fast k (leaf_place g s i u j) is in
+      inr (inr (inl (u, p.0, j, p.1)))
+  use_reads i u (uses.Block j) is =
       let p = use_of_place t u k (place g s i u j) is in
-      inr (inr (j, subst (λ v. place g s i v j ≡ Some k) (sym p.0) p.1))
+      inr (inr (inr (j, subst (λ v. place g s i v j ≡ Some k) (sym p.0) p.1)))
 
   unread : IsRoom g t k → ((u : Use) → used_block g s u ≡ Some (t, k) → ⊥) → (i : ℕ) → InodeReads g s i t k → ⊥
   unread room none i (inl (number, fast, at)) = no_slot g i k number (subst (λ v. IsRoom g v k) fast room) at
-  unread room none i (inr (inl (u, fast, some, at))) = none (record { inode = i; tier = u; logical = None }) (root_use g s i u some ∙ cc)
-  unread room none i (inr (inr (j, at))) = none (record { inode = i; tier = t; logical = Some j }) (place_use g s i t j k at)
+  unread room none i (inr (inl (u, fast, some, at))) = none (record { inode = i; tier = u; part = uses.Root }) (root_use g s i u some ∙ cc)
+  unread room none i (inr (inr (inl (u, fast, j, at)))) = none (record { inode = i; tier = u; part = uses.Leaf j }) (leaf_use g s i u j k at ∙ cc)
+  unread room none i (inr (inr (inr (j, at)))) = none (record { inode = i; tier = t; part = uses.Block j }) (place_use g s i t j k at)
 
 pub free_unused : (g : Sizes) (s : Store) (t : Tier) (k : ℕ) → Free g s t k ↔ (IsRoom g t k × ((u : Use) → used_block g s u ≡ Some (t, k) → ⊥))
 free_unused g s t k = (
-  (λ free. (free.room, (λ u is. free.unread u.inode (use_reads g s t k u.inode u.tier u.logical is)))),
+  (λ free. (free.room, (λ u is. free.unread u.inode (use_reads g s t k u.inode u.tier u.part is)))),
   (λ p. record { room = p.0; unread = unread g s t k p.0 p.1 }),
 )

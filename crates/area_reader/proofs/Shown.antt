@@ -1,7 +1,8 @@
 -- What is read of a journal's medium is what the store has.
-use Rattle.std.proofs.Common.{◌≡◌, ◌≢◌, ◌≤◌, ◌<◌, ◌+◌, ◌-◌, ◌*◌, ◌^◌, ◌||◌, ℕ, List, [], Bool, true, false, length, refl, sym, ◌∙◌, ap, arith, Option, Some, None, Ok}
-use Rattle.std.specs.Prelude.{◌==◌, nat_le, nat_lt, if◌then◌else◌}
-use Rattle.std.proofs.lemmas.Bool.{cond-true, cond-false, and_parts, and_from, leb-true, le-leb, ltb-true, lt-ltb, ne_eqb, eq-eqb}
+use Rattle.std.proofs.Common.{◌≡◌, ◌≢◌, ◌≤◌, ◌<◌, ◌+◌, ◌-◌, ◌*◌, ◌^◌, ◌||◌, ◌&&◌, ℕ, List, [], ◌∷◌, Bool, true, false, cond, length, refl, sym, ◌∙◌, ap, subst, arith, Option, Some, None, Ok, inl, inr}
+use Rattle.std.specs.Prelude.{◌==◌, nat_le, nat_lt, option_map}
+use Rattle.std.specs.List.{list_all}
+use Rattle.std.proofs.lemmas.Bool.{cases_Bool, cases_eq, cond-true, cond-false, and_parts, and_from, leb-true, le-leb, ltb-true, lt-ltb, ne_eqb, eq-eqb}
 use Rattle.std.proofs.lemmas.List.{take_all}
 use Rattle.tier_device.specs.declared.media.Tier.{Tier}
 use Rattle.tier_device.specs.declared.media.Tier.TheVariants.{Fast, Block, Slow}
@@ -10,15 +11,19 @@ use Rattle.batch_journal.specs.layout.declared.places.TheConstants.{FILE_BLOCKS}
 use Rattle.batch_journal.specs.layout.declared.slot.Slot.{Slot}
 use Rattle.batch_journal.specs.layout.declared.slot.Slot.TheVariants as slots
 use Rattle.batch_journal.specs.layout.declared.geometry.Space.{Space}
-use Rattle.batch_journal.specs.layout.Bytes.{◌>>=◌}
 use Rattle.batch_journal.specs.layout.Answers.{or_damaged}
 use Rattle.batch_journal.specs.layout.declared.error.What.{What}
-use Rattle.batch_journal.specs.layout.Extents.{ExtentList, extents_of}
-use Rattle.batch_journal.specs.layout.Places.{Sizes, is_inode, is_node, slot_block, slot_byte, tier_blocks, node_end}
+use Rattle.batch_journal.specs.layout.declared.extents.Extent.{Extent}
+use Rattle.batch_journal.specs.layout.Extents.{ExtentList, is_extent, is_cover, extents_of}
+use Rattle.batch_journal.specs.layout.Places.{Sizes, blocks_in, is_inode, is_node, slot_block, slot_byte, tier_blocks, node_end}
 use Rattle.batch_journal.specs.layout.Slot.{slot_of, fits_slot, is_root_block, roots_apart}
 use Rattle.batch_journal.specs.Images.{slice}
+use Rattle.extent_tree.specs.Trees.{runs_of}
+use Rattle.extent_tree.proofs.Spelled.{list-parts}
 use Rattle.batch_journal.specs.Blocks.{Blocks, home, is_home, ShowsHome}
-use Rattle.area_reader.specs.Store.{Store, slot_bytes, slot_read, root_of, space_of, length_of, is_own, own_extents, extents_by}
+use Rattle.area_reader.specs.Store.{Store, slot_bytes, slot_read, slot, root_of, space_of, length_of, extents_by, covers_by, listed_leaves, tier_covers, place_begun, leaf_place}
+use Rattle.area_reader.specs.Map.{tree_below, root_in}
+use Rattle.area_reader.proofs.Lists.{some_is, extents_fit}
 
 pub inode_is : (i : ℕ) → 1 ≤ i → i ≤ 1024 → is_inode i ≡ true
 inode_is i low high = and_from (nat_le 1 i) (nat_le i 1024) (le-leb 1 i low) (le-leb i 1024 high)
@@ -95,24 +100,61 @@ node_home g k is =
 
 -- ---- extents
 
-own_by : (g : Sizes) (p : Space) (i n : ℕ) (bytes : List ℕ) (o : Option ExtentList) → extents_of g p bytes ≡ o → own_extents g p i n bytes ≡ (o >>= λ v. if is_own i n v then Some v.extents else None)
-unfolding own_extents
-own_by g p i n bytes o read = ap (λ o. o >>= λ v. if is_own i n v then Some v.extents else None) read
-
-pub own_some : (g : Sizes) (p : Space) (i n : ℕ) (bytes : List ℕ) (v : ExtentList) → extents_of g p bytes ≡ Some v → is_own i n v ≡ true → own_extents g p i n bytes ≡ Some v.extents
-own_some g p i n bytes v read own = own_by g p i n bytes (Some v) read ∙ cond-true (is_own i n v) (Some v.extents) None own
-
-pub own_other : (g : Sizes) (p : Space) (i n : ℕ) (bytes : List ℕ) (v : ExtentList) → extents_of g p bytes ≡ Some v → is_own i n v ≡ false → own_extents g p i n bytes ≡ None
-own_other g p i n bytes v read other = own_by g p i n bytes (Some v) read ∙ cond-false (is_own i n v) (Some v.extents) None other
-
-pub own_none : (g : Sizes) (p : Space) (i n : ℕ) (bytes : List ℕ) → extents_of g p bytes ≡ None → own_extents g p i n bytes ≡ None
-own_none g p i n bytes none = own_by g p i n bytes None none
-
 pub extents_none : (g : Sizes) (fast : Blocks) (i : ℕ) (x : Slot) (t : Tier) → root_of x t ≡ 0 → extents_by g fast i x t ≡ Some []
-extents_none g fast i x t zero = cond-true (root_of x t == 0) _ _ (eq-eqb (root_of x t) 0 zero)
+extents_none g fast i x t zero = ap (option_map runs_of) (cond-true (root_of x t == 0) _ _ (eq-eqb (root_of x t) 0 zero))
 
-pub extents_some : (g : Sizes) (fast : Blocks) (i : ℕ) (x : Slot) (t : Tier) → root_of x t ≢ 0 → extents_by g fast i x t ≡ own_extents g (space_of x t) i (length_of x) (fast (root_of x t))
-extents_some g fast i x t some = cond-false (root_of x t == 0) _ _ (ne_eqb (root_of x t) 0 some)
+pub extents_some : (g : Sizes) (fast : Blocks) (i : ℕ) (x : Slot) (t : Tier) → root_of x t ≢ 0 → extents_by g fast i x t ≡ option_map runs_of (tree_below g fast (root_in i x t))
+extents_some g fast i x t some = ap (option_map runs_of) (cond-false (root_of x t == 0) _ _ (ne_eqb (root_of x t) 0 some))
+
+pub covers_none : (g : Sizes) (fast : Blocks) (x : Slot) (t : Tier) → root_of x t ≡ 0 → covers_by g fast x t ≡ []
+covers_none g fast x t zero = cond-true (root_of x t == 0) _ _ (eq-eqb (root_of x t) 0 zero)
+
+pub covers_some : (g : Sizes) (fast : Blocks) (x : Slot) (t : Tier) → root_of x t ≢ 0 → covers_by g fast x t ≡ listed_leaves (extents_of g (space_of x t) (fast (root_of x t)))
+covers_some g fast x t some = cond-false (root_of x t == 0) _ _ (ne_eqb (root_of x t) 0 some)
+
+pub map_none : {A B : Type 0} (f : A → B) (o : Option A) → option_map f o ≡ None → o ≡ None
+map_none f None e = refl
+map_none f (Some x) e = absurd cc
+
+-- ---- leaves that a root lists
+
+pub begun_in : (g : Sizes) (p : Space) (k at : ℕ) (cs : List Extent) → list_all (is_cover g p) cs ≡ true → place_begun cs k ≡ Some at → is_node g at ≡ true
+begun_in g p k at [] each is = absurd cc
+begun_in g p k at (c ∷ cs) each is =
+    let one = and_parts (is_cover g p c) (list_all (is_cover g p) cs) each in
+    elim (cases_Bool (c.logical == k)) [
+      | inl here ↦
+          let place : c.place ≡ at = some_is c.place at (sym (cond-true (c.logical == k) (Some c.place) (place_begun cs k) here) ∙ is) in
+          let a = and_parts (nat_le 1 c.length) (nat_le (c.logical + c.length) (blocks_in p) && is_node g c.place) one.0 in
+          let b = and_parts (nat_le (c.logical + c.length) (blocks_in p)) (is_node g c.place) a.1 in
+          subst (λ (n : ℕ). is_node g n ≡ true) place b.1
+      | inr other ↦ begun_in g p k at cs one.1 (sym (cond-false (c.logical == k) (Some c.place) (place_begun cs k) other) ∙ is)
+    ]
+
+-- what a root lists as leaves are blocks of the node pool
+pub listed_each : (g : Sizes) (p : Space) (bytes : List ℕ) (o : Option ExtentList) → extents_of g p bytes ≡ o → list_all (is_cover g p) (listed_leaves o) ≡ true
+listed_each g p bytes None read = refl
+listed_each g p bytes (Some v) read = elim (cases_Bool (v.level == 0)) [
+  | inl lowest ↦ ap (list_all (is_cover g p)) (cond-true (v.level == 0) [] v.extents lowest)
+  | inr above ↦
+      let each = (list-parts g p v (extents_fit g p bytes v read)).each in
+      ap (list_all (is_cover g p)) (cond-false (v.level == 0) [] v.extents above) ∙ subst (λ (b : Bool). list_all (λ e. cond b (is_extent g p e) (is_cover g p e)) v.extents ≡ true) above each
+]
+
+pub leaf_pooled : (g : Sizes) (s : Store) (i : ℕ) (t : Tier) (k at : ℕ) → leaf_place g s i t k ≡ Some at → is_node g at ≡ true
+unfolding tier_covers
+leaf_pooled g s i t k at is = elim (cases_eq (root_of (slot g s i) t) 0) [
+  | inl zero ↦ absurd (none_begun (covers_by g (s Fast) (slot g s i) t) (covers_none g (s Fast) (slot g s i) t zero) is)
+  | inr some ↦ begun_in g p k at (listed_leaves (extents_of g p bytes)) (listed_each g p bytes (extents_of g p bytes) refl) (ap (λ (cs : List Extent). place_begun cs k) (sym (covers_some g (s Fast) (slot g s i) t some)) ∙ is)
+] where
+  p : Space
+  p = space_of (slot g s i) t
+
+  bytes : List ℕ
+  bytes = s Fast (root_of (slot g s i) t)
+
+  none_begun : (cs : List Extent) → cs ≡ [] → place_begun cs k ≡ Some at → ⊥
+  none_begun cs none is = let e : place_begun cs k ≡ None = ap (λ (cs : List Extent). place_begun cs k) none in cc
 
 -- ---- answers of a decoder
 

@@ -13,7 +13,9 @@ use Rattle.tree_blocks.specs.Inode.{IsDirectoryBlock, entry_at}
 use Rattle.area_reader.specs.declared.error.AreaError.{AreaError}
 use Rattle.area_reader.specs.declared.error.AreaError.TheVariants as errors
 use Rattle.area_reader.specs.Store.{Store, slot, slot_read, root_of, length_of, extents_read, place, logical_block, inode as inode_at, graph, marks}
+use Rattle.area_reader.specs.Map.{ShowsNoTree, root_in}
 use Rattle.area_reader.specs.Format.{Use, used_block}
+use Rattle.area_reader.specs.Uses.{UsePart}
 
 -- ---- slots
 
@@ -43,26 +45,25 @@ pub record IsMappedTwice (g : Sizes) (s : Store) (i : ℕ) (t : Tier) : Type 0 w
   pub here : IsSome (place g s i t block)
   pub there : IsSome (place g s i other block)
 
--- the extent block, or a block that it names, has another use
+-- a block of the tree, or one that it names, has another use
 pub record IsShared (g : Sizes) (s : Store) (i : ℕ) (t : Tier) : Type 0 where
-  pub logical : Option ℕ
+  pub part : UsePart
   pub other : Use
   pub block : Tier × ℕ
-  pub differ : other ≢ record { inode = i; tier = t; logical = logical }
-  pub here : used_block g s (record { inode = i; tier = t; logical = logical }) ≡ Some block
+  pub differ : other ≢ record { inode = i; tier = t; part = part }
+  pub here : used_block g s (record { inode = i; tier = t; part = part }) ≡ Some block
   pub there : used_block g s other ≡ Some block
 
--- An extent block spells none that are the inode's within its size, or some that another tier has too.
+-- There is no tree of extents that are the inode's within its size, or the tree has some that another tier has too.
 pub record IsExtentDamage (g : Sizes) (s : Store) (part : What) (block : ℕ) : Type 0 where
   pub structure : part ≡ what.ExtentBlock
   pub inode : ℕ
   pub is : is_inode inode ≡ true
   pub tier : Tier
   pub some : root_of (slot g s inode) tier ≢ 0
-  pub at : block ≡ root_of (slot g s inode) tier
-  pub wrong : (extents_read g s inode tier ≡ None) ⊎ IsMappedTwice g s inode tier
+  pub wrong : ShowsNoTree g (s tiers.Fast) (root_in inode (slot g s inode) tier) block ⊎ ((block ≡ root_of (slot g s inode) tier) × IsMappedTwice g s inode tier)
 
--- An extent block, or a block that it names, has another use.
+-- A block of a tree, or one that it names, has another use: the root is told.
 pub record IsShareDamage (g : Sizes) (s : Store) (part : What) (block : ℕ) : Type 0 where
   pub structure : part ≡ what.ExtentBlock
   pub inode : ℕ

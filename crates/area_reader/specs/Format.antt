@@ -8,7 +8,9 @@ use Rattle.batch_journal.specs.layout.declared.places.TheConstants.{SUPER_BLOCK}
 use Rattle.batch_journal.specs.layout.Places.{Sizes, is_inode}
 use Rattle.tree_blocks.specs.Inode.{IsConsistent}
 use Rattle.batch_journal.specs.Volume.{Spells}
-use Rattle.area_reader.specs.Store.{Store, slot, slot_read, root_of, extents_read, place, inode, graph, marks}
+use Rattle.area_reader.specs.Store.{Store, slot, slot_read, root_of, extents_read, place, leaf_place, inode, graph, marks}
+use Rattle.area_reader.specs.Uses.{UsePart}
+use Rattle.area_reader.specs.Uses as uses
 
 -- Slot and extents of an inode are read, no logical block is mapped by two tiers, and its blocks are as its slot tells: zero behind a file's size; a
 -- directory's entries, each of a name of its own.
@@ -18,19 +20,20 @@ pub record SpellsInode (g : Sizes) (s : Store) (i : ℕ) : Type 0 where
   pub once : (t u : Tier) (k : ℕ) → IsSome (place g s i t k) → IsSome (place g s i u k) → t ≡ u
   pub consistent : IsConsistent i (inode g s i)
 
--- what an inode has a block for: to list its extents in a tier, or to hold a logical block there
+-- what an inode has a block for
 pub record Use : Type 0 where
   pub inode : ℕ
   pub tier : Tier
-  pub logical : Option ℕ
+  pub part : UsePart
 
-abbrev block_for : Sizes → Store → ℕ → Tier → Option ℕ → Option (Tier × ℕ)
-block_for g s i t None = if root_of (slot g s i) t == 0 then None else Some (tiers.Fast, root_of (slot g s i) t)
-block_for g s i t (Some k) = option_map (λ p. (t, p)) (place g s i t k)
+abbrev block_for : Sizes → Store → ℕ → Tier → UsePart → Option (Tier × ℕ)
+block_for g s i t uses.Root = if root_of (slot g s i) t == 0 then None else Some (tiers.Fast, root_of (slot g s i) t)
+block_for g s i t (uses.Leaf k) = option_map (λ p. (tiers.Fast, p)) (leaf_place g s i t k)
+block_for g s i t (uses.Block k) = option_map (λ p. (t, p)) (place g s i t k)
 
 -- the block of a use, where there is one
 abbrev pub used_block : Sizes → Store → Use → Option (Tier × ℕ)
-used_block g s u = block_for g s u.inode u.tier u.logical
+used_block g s u = block_for g s u.inode u.tier u.part
 
 -- No block has two uses.
 abbrev pub AreUsedOnce : Sizes → Store → Type 0

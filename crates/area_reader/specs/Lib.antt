@@ -1,4 +1,5 @@
 pub mod Store
+pub mod Uses
 pub mod Reads
 pub mod Format
 pub mod Damage

@@ -2,16 +2,16 @@
 use Rattle.std.specs.Prelude.{◌≡◌, ◌≢◌, ◌⊎◌, ◌≤◌, ◌<◌, ◌+◌, ◌*◌, true, ℕ, Some}
 use Rattle.tier_device.specs.declared.media.Tier.{Tier}
 use Rattle.tier_device.specs.declared.media.Tier.TheVariants as tiers
-use Rattle.batch_journal.specs.layout.declared.places.TheConstants.{BLOCK, FIRST_NODE_BLOCK}
+use Rattle.batch_journal.specs.layout.declared.places.TheConstants.{BLOCK, SUPER_BLOCK, FIRST_NODE_BLOCK}
 use Rattle.batch_journal.specs.layout.Places.{Sizes, is_inode, slot_block, tier_blocks}
 use Rattle.batch_journal.specs.Blocks.{Blocks}
-use Rattle.area_reader.specs.Store.{Store, slot_bytes, slot, root_of, place}
+use Rattle.area_reader.specs.Store.{Store, slot_bytes, slot, root_of, place, leaf_place}
 
--- Inode i reads this block of a tier: the one of its slot, an extent block, or one that holds a logical block.
+-- Inode i reads this block of a tier: the one of its slot, a root, one that a root lists as a leaf, or one that holds a logical block.
 abbrev pub InodeReads : Sizes → Store → ℕ → Tier → ℕ → Type 0
 InodeReads g s i t k =
     ((is_inode i ≡ true) × (t ≡ tiers.Fast) × (k ≡ slot_block i)) ⊎ ((u : Tier) × (t ≡ tiers.Fast) × (root_of (slot g s i) u ≢ 0) × (k ≡ root_of (slot g s i) u))
-    ⊎ ((j : ℕ) × (place g s i t j ≡ Some k))
+    ⊎ ((u : Tier) × (t ≡ tiers.Fast) × (j : ℕ) × (leaf_place g s i u j ≡ Some k)) ⊎ ((j : ℕ) × (place g s i t j ≡ Some k))
 
 -- the first block of a tier that is of a pool or holds data
 abbrev pub first_room : Tier → ℕ
@@ -46,8 +46,10 @@ Loose g seen left = (t : Tier) → LooseIn g seen t (left t)
 abbrev pub IsFreeRun : Sizes → Store → Tier → ℕ → ℕ → Type 0
 IsFreeRun g s t first size = (k : ℕ) → first ≤ k → BLOCK * k < BLOCK * first + size → Free g s t k
 
--- What inode i reads in the old store is the same in the new one.
+-- What inode i reads in the old store, and the superblock, is the same in the new one.
 pub record Untouched (g : Sizes) (old new : Store) (i : ℕ) : Type 0 where
+  pub superblock : new tiers.Fast SUPER_BLOCK ≡ old tiers.Fast SUPER_BLOCK
   pub slot_is : is_inode i ≡ true → slot_bytes new i ≡ slot_bytes old i
   pub roots : (u : Tier) → root_of (slot g old i) u ≢ 0 → new tiers.Fast (root_of (slot g old i) u) ≡ old tiers.Fast (root_of (slot g old i) u)
+  pub leaves : (u : Tier) (j k : ℕ) → leaf_place g old i u j ≡ Some k → new tiers.Fast k ≡ old tiers.Fast k
   pub mapped : (t : Tier) (j k : ℕ) → place g old i t j ≡ Some k → new t k ≡ old t k

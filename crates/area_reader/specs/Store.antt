@@ -1,11 +1,10 @@
 -- The blocks of three tiers, and what each inode is in them.
-use Rattle.std.specs.Prelude.{◌+◌, ◌-◌, ◌/◌, ◌==◌, ◌&&◌, nat_le, Bool, ℕ, List, [], Option, Some, None, unwrap_or, if◌then◌else◌}
-use Rattle.std.specs.List.{list_all}
+use Rattle.std.specs.Prelude.{◌+◌, ◌-◌, ◌/◌, ◌==◌, ℕ, List, [], ◌∷◌, Option, Some, None, option_map, unwrap_or, if◌then◌else◌}
 use Rattle.tier_device.specs.declared.media.Media.{Ghosts}
 use Rattle.tier_device.specs.declared.media.Tier.{Tier}
 use Rattle.tier_device.specs.declared.media.Tier.TheVariants as tiers
 use Rattle.batch_journal.specs.file_graph.Graph.{Graph}
-use Rattle.batch_journal.specs.layout.declared.places.TheConstants.{BLOCK, SLOT_SIZE, MARKS_BLOCK}
+use Rattle.batch_journal.specs.layout.declared.places.TheConstants.{BLOCK, SLOT_SIZE, SUPER_BLOCK, MARKS_BLOCK}
 use Rattle.batch_journal.specs.layout.declared.directory.TheConstants.{MAX_IN_BLOCK}
 use Rattle.batch_journal.specs.layout.declared.geometry.Space.{Space}
 use Rattle.batch_journal.specs.layout.declared.geometry.Space.TheVariants as space
@@ -13,12 +12,14 @@ use Rattle.batch_journal.specs.layout.declared.slot.Slot.{Slot}
 use Rattle.batch_journal.specs.layout.declared.slot.Slot.TheVariants as slots
 use Rattle.batch_journal.specs.layout.declared.extents.Extent.{Extent}
 use Rattle.batch_journal.specs.layout.declared.marks.Marks.{Marks}
-use Rattle.batch_journal.specs.layout.Bytes.{◌>>=◌}
+use Rattle.batch_journal.specs.layout.declared.superblock.TheConstants.{FIRST_VERSION, LAST_VERSION}
 use Rattle.batch_journal.specs.layout.Places.{Sizes, is_inode, slot_block, slot_byte}
 use Rattle.batch_journal.specs.layout.Slot.{slot_of}
 use Rattle.batch_journal.specs.layout.Extents.{ExtentList, extents_of}
 use Rattle.batch_journal.specs.layout.Marks.{marks_of}
-use Rattle.extent_tree.specs.Places.{end_of, place_of}
+use Rattle.batch_journal.specs.layout.Super.{super_of}
+use Rattle.extent_tree.specs.Places.{place_of}
+use Rattle.extent_tree.specs.Trees.{Tree, runs_of, tree_in}
 use Rattle.tree_blocks.specs.Inode.{Inode, inode_of, graph_of_inodes}
 use Rattle.batch_journal.specs.Images.{slice}
 use Rattle.batch_journal.specs.Blocks.{Blocks, block_of, home}
@@ -70,7 +71,7 @@ length_of (slots.Directory names entries touch root) = (entries + (MAX_IN_BLOCK 
 
 -- ---- where its logical blocks lie
 
--- the extent block of a tier; 0 for none
+-- the root of the tree of its extents in a tier; 0 for none
 abbrev pub root_of : Slot → Tier → ℕ
 root_of slots.Free t = 0
 root_of (slots.File names size touch fast block slow) tiers.Fast = fast
@@ -86,21 +87,27 @@ space_of slots.Free t = space.Data t
 space_of (slots.File names size touch fast block slow) t = space.Data t
 space_of (slots.Directory names entries touch root) t = space.Nodes
 
--- whether extents are this inode's, in a tree of one block, and none ends behind so many logical blocks
-abbrev pub is_own : ℕ → ℕ → ExtentList → Bool
-is_own owner blocks v = (v.owner == owner) && (v.level == 0) && list_all (λ e. nat_le (end_of e) blocks) v.extents
+-- the highest level that a root may have in the version that a superblock tells, or where it tells none in the last one
+unfoldable pub deepest_in : List ℕ → ℕ
+deepest_in bytes = unwrap_or (option_map (λ x. x.version) (super_of bytes)) LAST_VERSION - FIRST_VERSION
 
--- the extents that a block spells, if they are that inode's and none ends behind so many
-unfoldable pub own_extents : Sizes → Space → ℕ → ℕ → List ℕ → Option (List Extent)
-own_extents g p owner blocks bytes = do
-  v ← extents_of g p bytes
-  if is_own owner blocks v then Some v.extents else None
+-- the highest level that a root may have on these media
+abbrev pub deepest : Blocks → ℕ
+deepest fast = deepest_in (fast SUPER_BLOCK)
 
--- the extents that inode i has by a slot, from the extent block of a tier
+-- a tree that lists nothing
+abbrev pub no_tree : Tree
+no_tree = record { level = 0; leaves = [] }
+
+-- the tree of the extents that inode i has by a slot in a tier
+abbrev pub tree_by : Sizes → Blocks → ℕ → Slot → Tier → Option Tree
+tree_by g fast i slot t = if root_of slot t == 0 then Some no_tree else tree_in g (space_of slot t) i (deepest fast) (length_of slot) fast (root_of slot t)
+
+-- the extents that inode i has by a slot in a tier
 abbrev pub extents_by : Sizes → Blocks → ℕ → Slot → Tier → Option (List Extent)
-extents_by g fast i slot t = if root_of slot t == 0 then Some [] else own_extents g (space_of slot t) i (length_of slot) (fast (root_of slot t))
+extents_by g fast i slot t = option_map runs_of (tree_by g fast i slot t)
 
--- the extents of an inode in a tier, where its extent block spells some
+-- the extents of an inode in a tier, where the blocks of a tree list some
 unfoldable pub extents_read : Sizes → Store → ℕ → Tier → Option (List Extent)
 extents_read g s i t = extents_by g (s tiers.Fast) i (slot g s i) t
 
@@ -111,6 +118,28 @@ tier_extents g s i t = unwrap_or (extents_read g s i t) []
 -- the block of a tier that holds a logical block of an inode
 abbrev pub place : Sizes → Store → ℕ → Tier → ℕ → Option ℕ
 place g s i t k = place_of (tier_extents g s i t) k
+
+-- what a root lists as its leaves; nothing where it stands above none
+abbrev pub listed_leaves : Option ExtentList → List Extent
+listed_leaves None = []
+listed_leaves (Some v) = if v.level == 0 then [] else v.extents
+
+-- what the root lists as leaves that an inode has by a slot in a tier
+abbrev pub covers_by : Sizes → Blocks → Slot → Tier → List Extent
+covers_by g fast slot t = if root_of slot t == 0 then [] else listed_leaves (extents_of g (space_of slot t) (fast (root_of slot t)))
+
+-- what an inode's root in a tier lists as leaves
+unfoldable pub tier_covers : Sizes → Store → ℕ → Tier → List Extent
+tier_covers g s i t = covers_by g (s tiers.Fast) (slot g s i) t
+
+-- the place of the entry that begins with a logical block
+abbrev pub place_begun : List Extent → ℕ → Option ℕ
+place_begun [] k = None
+place_begun (e ∷ es) k = if e.logical == k then Some e.place else place_begun es k
+
+-- the block of the leaf of an inode in a tier that begins with a logical block
+abbrev pub leaf_place : Sizes → Store → ℕ → Tier → ℕ → Option ℕ
+leaf_place g s i t k = place_begun (tier_covers g s i t) k
 
 -- the block at a place, or else this
 abbrev pub at_or : Blocks → Option ℕ → List ℕ → List ℕ

@@ -1,20 +1,20 @@
 // Marking the blocks of an inode.
-ghost use Rattle.std.specs.Prelude.{◌≡◌, MatchBool, IfSome, IfNone};
+ghost use Rattle.std.specs.Prelude.{◌≡◌, Some, MatchBool, IfSome, IfNone};
 ghost use Rattle.area_reader.specs.Map.{in_tier};
 ghost use Rattle.area_reader.specs.Store.{length_of};
 ghost use Rattle.area_reader.specs.BlockMarks.{TakesBlocks, Clashes};
-ghost use Rattle.area_reader.specs.Parts.{part_block, IsRoot, IsPlace, IsOfTier, IsWithin, HasRoomFor};
+ghost use Rattle.area_reader.specs.Parts.{part_block, IsRoot, IsLeaf, IsOfTree, IsPlace, IsOfTier, IsWithin, HasRoomFor};
 
 use crate::inode::InodeParts;
 use crate::places::place_in;
 use crate::slots::{length_of, root_of};
 use crate::tiers::InodeExtents;
+use crate::trees::TierTree;
 use crate::used_blocks::UsedBlocks;
-use batch_journal::in_layout::ExtentBlock;
 use tier_device::Tier;
 
-// The extents in a tier.
-fn extents_in(found: &InodeExtents, tier: Tier) -> &Option<ExtentBlock>
+// The tree of a tier.
+fn tree_in(found: &InodeExtents, tier: Tier) -> &Option<TierTree>
     ensures { result.now ≡ in_tier found.now tier }
 {
     match tier {
@@ -24,7 +24,7 @@ fn extents_in(found: &InodeExtents, tier: Tier) -> &Option<ExtentBlock>
     }
 }
 
-// Marks the extent block of a tier, and tells whether it was marked.
+// Marks the root of a tier, and tells whether it was marked.
 fn mark_root(used: &mut UsedBlocks, parts: &InodeParts, tier: Tier) -> bool
     requires { HasRoomFor used.old parts.now }
     ensures { MatchBool result (Clashes used.old (part_block parts.now) (IsRoot tier)) (TakesBlocks used.old used.new (part_block parts.now) (IsRoot tier)) }
@@ -36,12 +36,52 @@ fn mark_root(used: &mut UsedBlocks, parts: &InodeParts, tier: Tier) -> bool
     used.mark(Tier::Fast, root as u64)
 }
 
+// Marks the blocks of a tier's leaves, up to the first that was marked.
+fn mark_leaves(used: &mut UsedBlocks, parts: &InodeParts, tier: Tier) -> bool
+    requires { HasRoomFor used.old parts.now }
+    ensures { MatchBool result (Clashes used.old (part_block parts.now) (IsLeaf tier)) (TakesBlocks used.old used.new (part_block parts.now) (IsLeaf tier)) }
+{
+    match tree_in(&parts.extents, tier) {
+        Some(tree) => mark_covered(used, parts, tier, tree),
+        None => false,
+    }
+}
+
+// Marks the blocks of a tree's leaves, up to the first that was marked; the leaf of a tree of level 0 has none besides the root.
+fn mark_covered(used: &mut UsedBlocks, parts: &InodeParts, tier: Tier, tree: &TierTree) -> bool
+    requires room { HasRoomFor used.old parts.now }
+    requires tree { in_tier parts.now.extents tier ≡ Some tree.now }
+    ensures { MatchBool result (Clashes used.old (part_block parts.now) (IsLeaf tier)) (TakesBlocks used.old used.new (part_block parts.now) (IsLeaf tier)) }
+{
+    if tree.level == 0 {
+        return false;
+    }
+    let homes = tree.extents.homes();
+    'leaves: for index in 0..homes.len() {
+        if used.mark(Tier::Fast, homes[index] as u64) {
+            return true;
+        }
+    }
+    false
+}
+
+// Marks the root and the leaves of a tier, up to the first block that was marked.
+fn mark_tree(used: &mut UsedBlocks, parts: &InodeParts, tier: Tier) -> bool
+    requires { HasRoomFor used.old parts.now }
+    ensures { MatchBool result (Clashes used.old (part_block parts.now) (IsOfTree tier)) (TakesBlocks used.old used.new (part_block parts.now) (IsOfTree tier)) }
+{
+    if mark_root(used, parts, tier) {
+        return true;
+    }
+    mark_leaves(used, parts, tier)
+}
+
 // Marks the blocks that hold what a tier maps, up to the first that was marked.
 fn mark_places(used: &mut UsedBlocks, parts: &InodeParts, tier: Tier) -> bool
     requires { HasRoomFor used.old parts.now }
     ensures { MatchBool result (Clashes used.old (part_block parts.now) (IsPlace tier (length_of parts.now.slot))) (TakesBlocks used.old used.new (part_block parts.now) (IsPlace tier (length_of parts.now.slot))) }
 {
-    let found = extents_in(&parts.extents, tier);
+    let found = tree_in(&parts.extents, tier);
     'places: for block in 0..length_of(&parts.slot) {
         if let Some(place) = place_in(found, block) {
             if used.mark(tier, place) {
@@ -57,13 +97,13 @@ fn mark_tier(used: &mut UsedBlocks, parts: &InodeParts, tier: Tier) -> bool
     requires { HasRoomFor used.old parts.now }
     ensures { MatchBool result (Clashes used.old (part_block parts.now) (IsOfTier tier parts.now)) (TakesBlocks used.old used.new (part_block parts.now) (IsOfTier tier parts.now)) }
 {
-    if mark_root(used, parts, tier) {
+    if mark_tree(used, parts, tier) {
         return true;
     }
     mark_places(used, parts, tier)
 }
 
-/// Marks the blocks of an inode, each once: its extent blocks, and those that hold its logical blocks. The tier where one of them was marked before or is there
+/// Marks the blocks of an inode, each once: the roots and leaves of its extents, and those that hold its logical blocks. The tier where one of them was marked before or is there
 /// twice; the marks are then of no use.
 pub fn mark_inode(used: &mut UsedBlocks, parts: &InodeParts) -> Option<Tier>
     requires { HasRoomFor used.old parts.now }

@@ -10,7 +10,7 @@ ghost use Rattle.batch_journal.specs.layout.Slot.{fits_slot};
 ghost use Rattle.batch_journal.specs.Blocks.{Blocks};
 ghost use Rattle.batch_journal.specs.Course.{OutsideRun};
 ghost use Rattle.batch_journal.specs.Volume.{Spells};
-ghost use Rattle.area_reader.specs.Store.{Store, store_of, content_blocks, slot, slot_read, root_of, length_of, extents_read, place, logical_block, inode, graph, marks};
+ghost use Rattle.area_reader.specs.Store.{Store, store_of, content_blocks, slot, slot_read, root_of, length_of, extents_read, place, leaf_place, logical_block, inode, graph, marks};
 ghost use Rattle.area_reader.specs.Reads.{Free, Loose, LooseIn, IsFreeRun, IsPlaced, Untouched};
 ghost use Rattle.area_reader.specs.Format.{SpellsInode, Use, used_block, IsSpelled, IsOpenable};
 ghost use Rattle.area_reader.specs.Damage.{IsDamaged};
@@ -70,10 +70,11 @@ pub fn sound_blocks_spell_a_graph()
 pub fn places_are_in_pools()
     ensures slots { (g : Sizes) (s : Store) (i : ℕ) → fits_slot g (slot g s i) ≡ true }
     ensures roots { (g : Sizes) (s : Store) (i : ℕ) (t : Tier) → root_of (slot g s i) t ≢ 0 → is_node g (root_of (slot g s i) t) ≡ true }
+    ensures leaves { (g : Sizes) (s : Store) (i : ℕ) (t : Tier) (k at : ℕ) → leaf_place g s i t k ≡ Some at → is_node g at ≡ true }
     ensures places { (g : Sizes) (s : Store) (i : ℕ) (t : Tier) (k at : ℕ) → place g s i t k ≡ Some at → IsPlaced g t (length_of (slot g s i)) k at }
 {}
 
-/// No two logical blocks of an inode lie in one block of a tier.
+/// No two logical blocks of an inode lie in one block of a tier, where no block has two uses.
 pub fn logical_blocks_lie_apart()
-    ensures { (g : Sizes) (s : Store) (i : ℕ) (t : Tier) (j k at : ℕ) → place g s i t j ≡ Some at → place g s i t k ≡ Some at → j ≡ k }
+    ensures { (g : Sizes) (s : Store) → IsSpelled g s → (i : ℕ) (t : Tier) (j k at : ℕ) → place g s i t j ≡ Some at → place g s i t k ≡ Some at → j ≡ k }
 {}

@@ -8,7 +8,6 @@ mod change_laws;
 mod directory;
 mod entries;
 mod error;
-mod extents;
 mod inode;
 mod inode_checks;
 mod inode_marks;
@@ -20,6 +19,7 @@ mod places;
 mod slots;
 mod tail;
 mod tiers;
+mod trees;
 mod units;
 mod used_blocks;
 
@@ -30,7 +30,6 @@ pub use change_laws::{
     batch_leaves_the_other_tiers, free_blocks_have_no_use, rewritten_inodes_are_spelled,
 };
 pub use error::AreaError;
-pub use extents::read_extents;
 pub use inode::{InodeParts, read_parts};
 pub use inode_checks::read_inode;
 pub use inode_marks::mark_inode;
@@ -45,6 +44,7 @@ pub use places::first_place;
 pub use slots::{length_of, read_slot, root_of, space_of};
 pub use tail::block_number;
 pub use tiers::{InodeExtents, read_all_extents};
+pub use trees::{TierTree, read_tree};
 pub use units::{slots_give_the_units, units_of};
 pub use used_blocks::{UsedBlocks, unmarked_blocks_are_free};
 

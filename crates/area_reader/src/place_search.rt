@@ -1,12 +1,12 @@
-// A look-up of one logical block, in the bytes of an extent block.
-ghost use Rattle.std.specs.Prelude.{◌≡◌, ℕ, Some, None, false, IfOk, IfErr, IfSome, IfNone};
+// A look-up of one logical block, in the bytes of a root and a leaf.
+ghost use Rattle.std.specs.Prelude.{◌≡◌, Some, None, true, false, IsSome, IfOk, IfErr, IfSome, IfNone};
 ghost use Rattle.tier_device.specs.declared.media.Tier.{Tier};
 ghost use Rattle.tier_device.specs.declared.media.Tier.TheVariants as tiers;
-ghost use Rattle.batch_journal.specs.layout.declared.geometry.Space.{Space};
-ghost use Rattle.batch_journal.specs.layout.Places.{Sizes};
-ghost use Rattle.batch_journal.specs.layout.Extents.{ExtentList, extents_of};
-ghost use Rattle.extent_tree.specs.Places.{place_of};
+ghost use Rattle.batch_journal.specs.layout.Places.{is_node};
+ghost use Rattle.extent_tree.specs.Places.{has, place_in, place_of};
+ghost use Rattle.extent_tree.specs.Trees.{runs_of};
 ghost use Rattle.area_reader.specs.Store.{disk, slot_read, place};
+ghost use Rattle.area_reader.specs.Map.{tree_below, leaf_below};
 ghost use Rattle.area_reader.specs.Format.{IsSpelled};
 ghost use Rattle.area_reader.specs.Looks.{Looks};
 ghost use Rattle.area_reader.specs.declared.error.AreaError.TheVariants.{DeviceFault};
@@ -14,13 +14,14 @@ ghost use Rattle.area_reader.specs.declared.error.AreaError.TheVariants.{DeviceF
 use crate::block_reads::{blank_block, read_block};
 use crate::error::AreaError;
 use crate::slots::root_of;
+use crate::trees::{TreePlace, root_in};
 use batch_journal::Journal;
-use batch_journal::in_layout::{FILE_BLOCKS, Slot};
-use extent_tree::find_extent;
+use batch_journal::in_layout::{Extent, FILE_BLOCKS, Slot};
+use extent_tree::{find_extent, level_of};
 use tier_device::{Media, Tier};
 
 /// Finds where a logical block of an inode, which has this slot, lies in a tier; `None` where the tier does not map it. The media spell a graph, so the block is looked up in
-/// the bytes of the tier's extent block, and nothing else of that is tested. It takes no memory. `DeviceFault` where a device has failed before or fails now.
+/// the bytes of the tier's root and, above leaves, in those of the one leaf that may have it, and nothing else of them is tested. It takes no memory. `DeviceFault` where a device has failed before or fails now.
 pub fn find_place<M: Media>(
     journal: &mut Journal<M>,
     inode: u32,
@@ -44,9 +45,7 @@ pub fn find_place<M: Media>(
     if block >= FILE_BLOCKS as u64 {
         return Ok(None);
     }
-    let mut bytes = blank_block();
-    read_block(journal, Tier::Fast, root, &mut bytes)?;
-    Ok(place_in_list(&bytes, block as u32))
+    find_below(journal, root_in(inode, slot, tier), block as u32)
 }
 
 /// Finds the first tier that maps a logical block of an inode, which has this slot, and the place there; `None` where none does. It takes no memory, and refuses as
@@ -111,12 +110,54 @@ fn find_slow_place<M: Media>(
     }
 }
 
-// The place of a logical block by the bytes of an extent block.
-fn place_in_list(bytes: &[u8], block: u32) -> Option<u64>
-    ensures { (g : Sizes) (space : Space) (v : ExtentList) → extents_of g space bytes.now ≡ Some v → result ≡ place_of v.extents block }
+// The place of a logical block in the tree below a root, which spells one.
+fn find_below<M: Media>(
+    journal: &mut Journal<M>,
+    at: TreePlace,
+    block: u32,
+) -> Result<Option<u64>, AreaError>
+    requires node { is_node journal.old.geometry at.root ≡ true }
+    requires tree { IsSome (tree_below journal.old.geometry (disk M.Media journal.old tiers.Fast) at) }
+    ensures place { IfOk result (λ found. IfSome (tree_below journal.old.geometry (disk M.Media journal.old tiers.Fast) at) (λ tree. found ≡ place_of (runs_of tree) block)) }
+    ensures only { IfErr result (λ e. e ≡ DeviceFault) }
+    ensures looks { Looks M.Media journal.old journal.new result }
 {
-    match find_extent(bytes, block) {
-        Some(extent) => Some(extent.place as u64 + (block - extent.logical) as u64),
-        None => None,
+    let mut bytes = blank_block();
+    read_block(journal, Tier::Fast, at.root, &mut bytes)?;
+    let Some(entry) = find_extent(&bytes, block) else {
+        return Ok(None);
+    };
+    if level_of(&bytes) == 0 {
+        return Ok(Some(place_at(entry, block)));
     }
+    find_in_leaf(journal, at, entry, block)
+}
+
+// The place of a logical block in the leaf that an entry of a root covers.
+fn find_in_leaf<M: Media>(
+    journal: &mut Journal<M>,
+    at: TreePlace,
+    cover: Extent,
+    block: u32,
+) -> Result<Option<u64>, AreaError>
+    requires node { is_node journal.old.geometry cover.place ≡ true }
+    requires leaf { IsSome (leaf_below journal.old.geometry (disk M.Media journal.old tiers.Fast) at cover) }
+    ensures place { IfOk result (λ found. IfSome (leaf_below journal.old.geometry (disk M.Media journal.old tiers.Fast) at cover) (λ leaf. found ≡ place_of leaf.entries block)) }
+    ensures only { IfErr result (λ e. e ≡ DeviceFault) }
+    ensures looks { Looks M.Media journal.old journal.new result }
+{
+    let mut bytes = blank_block();
+    read_block(journal, Tier::Fast, cover.place, &mut bytes)?;
+    match find_extent(&bytes, block) {
+        Some(entry) => Ok(Some(place_at(entry, block))),
+        None => Ok(None),
+    }
+}
+
+// The place of a logical block that an extent has.
+fn place_at(extent: Extent, block: u32) -> u64
+    requires { has block extent ≡ true }
+    ensures { result ≡ place_in block extent }
+{
+    extent.place as u64 + (block - extent.logical) as u64
 }

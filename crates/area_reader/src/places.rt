@@ -5,29 +5,30 @@ ghost use Rattle.extent_tree.specs.Places.{place_of};
 ghost use Rattle.area_reader.specs.Map.{extents_in, place_by, IsOnceAt, IsTwiceAt};
 
 use crate::tiers::InodeExtents;
-use batch_journal::in_layout::{Extent, ExtentBlock};
+use crate::trees::TierTree;
+use batch_journal::in_layout::MAX_EXTENTS;
+use extent_tree::Extents;
 use tier_device::Tier;
 
-// The place of a logical block in a list of extents.
-fn place_among(extents: &[Extent], block: u64) -> Option<u64>
-    ensures { result ≡ place_of extents.now block }
-{
-    for index in 0..extents.len() {
-        let extent = extents[index];
-        let first = extent.logical as u64;
-        if first <= block && block < first + extent.length as u64 {
-            return Some(extent.place as u64 + (block - first));
-        }
-    }
-    None
-}
-
-/// The place of a logical block in a tier.
-pub fn place_in(found: &Option<ExtentBlock>, block: u64) -> Option<u64>
+/// The place of a logical block in a tier, found by bisection.
+pub fn place_in(found: &Option<TierTree>, block: u64) -> Option<u64>
     ensures { result ≡ place_of (extents_in found.now) block }
 {
     match found {
-        Some(list) => place_among(list.extents(), block),
+        Some(tree) => place_below(&tree.extents, block),
+        None => None,
+    }
+}
+
+// The place of a logical block; none of those from the end on has one.
+fn place_below(extents: &Extents<MAX_EXTENTS>, block: u64) -> Option<u64>
+    ensures { result ≡ place_of extents.now.runs block }
+{
+    if block >= extents.end() {
+        return None;
+    }
+    match extents.at(block as u32) {
+        Some(place) => Some(place as u64),
         None => None,
     }
 }

@@ -1,4 +1,4 @@
-// The extent blocks of an inode in all tiers.
+// The trees of an inode's extents in all tiers.
 ghost use Rattle.std.specs.Prelude.{◌≡◌, true, IfOk, IfErr};
 ghost use Rattle.tier_device.specs.declared.media.Tier.TheVariants as tiers;
 ghost use Rattle.batch_journal.specs.layout.Slot.{fits_slot};
@@ -9,22 +9,22 @@ ghost use Rattle.area_reader.specs.Map.{HasExtents, HasAllExtents, HasNoExtents,
 ghost use Rattle.area_reader.specs.declared.error.AreaError.TheVariants.{Memory};
 
 use crate::error::AreaError;
-use crate::extents::read_extents;
+use crate::trees::{TierTree, read_tree};
 use batch_journal::Journal;
-use batch_journal::in_layout::{ExtentBlock, Slot};
+use batch_journal::in_layout::Slot;
 use std::alloc::Global;
 use tier_device::{Media, Tier};
 
-/// The extent blocks of an inode, where it has one in the tier.
+/// The trees of an inode's extents, where it has one in the tier.
 #[derive(Drop)]
 pub struct InodeExtents {
-    pub fast: Option<ExtentBlock>,
-    pub block: Option<ExtentBlock>,
-    pub slow: Option<ExtentBlock>,
+    pub fast: Option<TierTree>,
+    pub block: Option<TierTree>,
+    pub slow: Option<TierTree>,
 }
 
-/// Reads the extents of an inode in all tiers, as its slot leads to them. `Damaged` names one that spells none that are the inode's and
-/// end within its logical blocks. `Memory` where there was none for what one spells.
+/// Reads the extents of an inode in all tiers, as its slot leads to them. `Damaged` names a root, or a block that it lists as a leaf, where there is no tree of extents that
+/// are the inode's and end within its logical blocks. `Memory` where there was none for what one lists.
 pub fn read_all_extents<M: Media>(
     alloc: Global,
     journal: &mut Journal<M>,
@@ -54,7 +54,7 @@ fn read_tiers<M: Media>(
     ensures memory { IfErr result (λ e. e ≡ Memory → HasSomeList journal.old.geometry (disk M.Media journal.old tiers.Fast) slot.now) }
     ensures looks { Looks M.Media journal.old journal.new result }
 {
-    let fast = read_extents(alloc, journal, inode, slot, Tier::Fast)?;
+    let fast = read_tree(alloc, journal, inode, slot, Tier::Fast)?;
     read_others(alloc, journal, inode, slot, fast)
 }
 
@@ -64,7 +64,7 @@ fn read_others<M: Media>(
     journal: &mut Journal<M>,
     inode: u32,
     slot: &Slot,
-    fast: Option<ExtentBlock>,
+    fast: Option<TierTree>,
 ) -> Result<InodeExtents, AreaError>
     requires { fits_slot journal.old.geometry slot.now ≡ true }
     ensures fast { IfOk result (λ x. x.fast ≡ fast) }
@@ -74,7 +74,7 @@ fn read_others<M: Media>(
     ensures memory { IfErr result (λ e. e ≡ Memory → HasSomeList journal.old.geometry (disk M.Media journal.old tiers.Fast) slot.now) }
     ensures looks { Looks M.Media journal.old journal.new result }
 {
-    let block = read_extents(alloc, journal, inode, slot, Tier::Block)?;
+    let block = read_tree(alloc, journal, inode, slot, Tier::Block)?;
     read_last(alloc, journal, inode, slot, fast, block)
 }
 
@@ -84,8 +84,8 @@ fn read_last<M: Media>(
     journal: &mut Journal<M>,
     inode: u32,
     slot: &Slot,
-    fast: Option<ExtentBlock>,
-    block: Option<ExtentBlock>,
+    fast: Option<TierTree>,
+    block: Option<TierTree>,
 ) -> Result<InodeExtents, AreaError>
     requires { fits_slot journal.old.geometry slot.now ≡ true }
     ensures fast { IfOk result (λ x. x.fast ≡ fast) }
@@ -95,6 +95,6 @@ fn read_last<M: Media>(
     ensures memory { IfErr result (λ e. e ≡ Memory → HasSomeList journal.old.geometry (disk M.Media journal.old tiers.Fast) slot.now) }
     ensures looks { Looks M.Media journal.old journal.new result }
 {
-    let slow = read_extents(alloc, journal, inode, slot, Tier::Slow)?;
+    let slow = read_tree(alloc, journal, inode, slot, Tier::Slow)?;
     Ok(InodeExtents { fast, block, slow })
 }

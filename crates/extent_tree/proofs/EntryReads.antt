@@ -15,7 +15,7 @@ use Rattle.layout.proofs.file_graph_lemmas.Fields.{bind_some, test_some, guard_s
 use Rattle.extent_tree.specs.Normal.{IsRising}
 use Rattle.extent_tree.proofs.Rising.{rising-wider}
 use Rattle.extent_tree.proofs.Spelled.{sorted-rising, blocks-few}
-use Rattle.extent_tree.specs.Entries.{entry_in, count_in}
+use Rattle.extent_tree.specs.Entries.{entry_in, count_in, level_in}
 
 -- ---- numbers and entries
 
@@ -144,6 +144,36 @@ block_read g s bytes v e =
       each = λ k d lt. ap entry_in (sym (drop-drop (12 * k) 16 bytes) ∙ ap (drop (12 * k)) (sym head.rest)) ∙ all.each k d (omega (arith, lt, all.long));
       rising = subst (IsRising 0 4294967295) (sym listed) (rising-wider 0 (blocks_in s) 0 4294967295 v.extents rising (omega arith) (blocks-few s));
     })
+
+-- ---- the level
+
+level_third : (bytes : List ℕ) (o c l : ℕ × List ℕ) → number_at 4 bytes ≡ Some o → number_at 4 o.1 ≡ Some c → number_at 4 c.1 ≡ Some l → level_in bytes ≡ Some l.0
+unfolding level_in
+level_third bytes o c l a b d = rw (a, b, d) refl
+
+level_head : (bytes : List ℕ) (h : ExtentHead × List ℕ) → header_at bytes ≡ Some h → level_in bytes ≡ Some h.0.level
+unfolding header_at
+level_head bytes h e =
+    let o = bind_some (number_at 4 bytes) _ h e in
+    let c = bind_some (number_at 4 o.0.1) _ h o.2 in
+    let l = bind_some (number_at 4 c.0.1) _ h c.2 in
+    let z = bind_some (number_at 4 l.0.1) _ h l.2 in
+    let made : ExtentHead × List ℕ = (record { owner = o.0.0; count = c.0.0; level = l.0.0 }, z.0.1) in
+    let t = test_some _ made h z.2 in
+    level_third bytes o.0 c.0 l.0 o.1 c.1 l.1 ∙ ap (λ (y : ExtentHead × List ℕ). Some y.0.level) t.1
+
+pub level_read : (g : Sizes) (s : Space) (bytes : List ℕ) (v : ExtentList) → extents_of g s bytes ≡ Some v → level_in bytes ≡ Some v.level
+unfolding extents_of extents_at
+level_read g s bytes v e =
+    let w = bind_some (within BLOCK (extents_at g s) bytes) _ v e in
+    let t = test_some (is_sound w.0) w.0 v w.2 in
+    let long = guard_some (eqb (length bytes) BLOCK) (extents_at g s bytes >>= λ x. cond (are_zero x.1) (Some x.0) None) w.0 w.1 in
+    let x = bind_some (extents_at g s bytes) _ w.0 long.1 in
+    let zeros = test_some (are_zero x.0.1) x.0.0 w.0 x.2 in
+    let h = bind_some (header_at bytes) _ x.0 x.1 in
+    let i = bind_some (items_at (extent_at g s h.0.0.level) h.0.0.count h.0.1) _ x.0 h.2 in
+    let made : ExtentList × List ℕ = (record { owner = h.0.0.owner; level = h.0.0.level; extents = i.0.0 }, i.0.1) in
+    level_head bytes h.0 h.1 ∙ ap (λ (y : ExtentList × List ℕ). Some y.0.level) (some_is made x.0 i.2) ∙ ap (λ (y : ExtentList). Some y.level) (zeros.1 ∙ t.1)
 
 -- where an entry stands there are bytes
 pub stands_behind : (at : ℕ) (bytes : List ℕ) (e : Extent) → entry_in (drop at bytes) ≡ Some e → at ≤ length bytes

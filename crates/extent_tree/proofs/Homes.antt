@@ -1,5 +1,5 @@
 -- The blocks of leaves.
-use Rattle.std.proofs.Common.{◌≡◌, ◌≤◌, ◌<◌, ℕ, suc, ◌+◌, Bool, true, false, cond, eqb, List, [], ◌∷◌, ◌++◌, length, get_or, take, drop, set, refl, sym, ap, ◌∙◌, arith, append_assoc}
+use Rattle.std.proofs.Common.{◌≡◌, ◌≤◌, ◌<◌, ℕ, zero, suc, ◌+◌, Bool, true, false, cond, eqb, List, [], ◌∷◌, ◌++◌, length, get_or, take, drop, set, refl, sym, ap, ◌∙◌, arith, append_assoc}
 use Rattle.std.specs.Prelude.{Result, Ok, Err, OnOk, OnErr}
 use Rattle.std.proofs.lemmas.Bool.{eq-eqb, ne_eqb}
 use Rattle.std.proofs.lemmas.List.Sums.{sum_by-cons}
@@ -25,6 +25,24 @@ covers_more ns hs i n h lt same =
 
 pub covers_all : (ns : List (List Extent)) (hs : List ℕ) (i : ℕ) → length ns ≤ i → length hs ≡ length ns → covers_of (take i ns) (take i hs) ≡ covers_of ns hs
 covers_all ns hs i le same = λ k. covers_of (take_all i ns le k) (take_all i hs (omega (arith, le, same)) k)
+
+pub covers_long : (ns : List (List Extent)) (hs : List ℕ) → length hs ≡ length ns → length (covers_of ns hs) ≡ length hs
+covers_long [] [] same = refl
+covers_long [] (h ∷ hs) same = absurd (omega (arith, same))
+covers_long (n ∷ ns) [] same = refl
+covers_long (n ∷ ns) (h ∷ hs) same = ap suc (covers_long ns hs (omega (arith, same)))
+
+summary-place : (h : ℕ) (n : List Extent) → (summary h n).place ≡ h
+summary-place h [] = refl
+summary-place h (e ∷ es) = refl
+
+-- each names the block of its leaf
+pub covers_place : (ns : List (List Extent)) (hs : List ℕ) (i : ℕ) (d : Extent) (e : ℕ) → length hs ≡ length ns → i < length hs → (get_or (covers_of ns hs) i d).place ≡ get_or hs i e
+covers_place [] [] i d e same lt = absurd (omega (arith, lt))
+covers_place [] (h ∷ hs) i d e same lt = absurd (omega (arith, same))
+covers_place (n ∷ ns) [] i d e same lt = absurd (omega (arith, lt))
+covers_place (n ∷ ns) (h ∷ hs) zero d e same lt = summary-place h n
+covers_place (n ∷ ns) (h ∷ hs) (suc i) d e same lt = covers_place ns hs i d e (omega (arith, same)) (omega (arith, lt))
 
 -- ---- blocks that are left
 

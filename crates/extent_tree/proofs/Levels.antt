@@ -11,6 +11,7 @@ use Rattle.extent_tree.specs.Places.{has, extent_with, place_in, place_of}
 use Rattle.extent_tree.specs.Normal.{IsRising}
 use Rattle.extent_tree.specs.Changes.{EndBefore, BeginBehind}
 use Rattle.extent_tree.specs.Nodes.{flat, begin_of, last_end, summary, summaries, AreFilled, HaveFrom}
+use Rattle.extent_tree.specs.Value.{covers_of}
 use Rattle.extent_tree.proofs.Maps.{has-parts, has-out, at-here, at-later, extent_with-append, or-none}
 use Rattle.extent_tree.proofs.Rising.{rising-left, rising-right, rising-tight, last-bound, none-before, none-behind}
 use Rattle.extent_tree.proofs.Joined.{all-append, all-left, all-right}
@@ -109,6 +110,17 @@ summaries-rising number low end ((e ∷ es) ∷ ns) is filled =
     let b = last-bound (e.logical + e.length) end es node is.2 in
     let at = summary-end e es end number node is.2 in
     (is.0, omega (arith, b.0, is.1), omega (arith, at, b.1), subst (λ k. IsRising k end (summaries (number + 1) ns)) (sym at) (summaries-rising (number + 1) (last_end (e.logical + e.length) es) end ns (rising-right (e.logical + e.length) end es (flat ns) is.3) filled.1))
+
+-- what covers leaves in their blocks rises, too
+pub covers-rising : (low end : ℕ) (ns : List (List Extent)) (hs : List ℕ) → IsRising low end (flat ns) → AreFilled ns → IsRising low end (covers_of ns hs)
+covers-rising low end [] hs is filled = tt
+covers-rising low end (n ∷ ns) [] is filled = tt
+covers-rising low end ([] ∷ ns) (h ∷ hs) is filled = absurd (omega (arith, filled.0))
+covers-rising low end ((e ∷ es) ∷ ns) (h ∷ hs) is filled =
+    let node = rising-left (e.logical + e.length) end es (flat ns) is.3 in
+    let b = last-bound (e.logical + e.length) end es node is.2 in
+    let at = summary-end e es end h node is.2 in
+    (is.0, omega (arith, b.0, is.1), omega (arith, at, b.1), subst (λ k. IsRising k end (covers_of ns hs)) (sym at) (covers-rising (last_end (e.logical + e.length) es) end ns hs (rising-right (e.logical + e.length) end es (flat ns) is.3) filled.1))
 
 -- a block outside the cover of a node is in none of its entries
 outside : (b number end : ℕ) (e : Extent) (es : List Extent) (ns : List (List Extent)) → 0 < e.length → IsRising (e.logical + e.length) end es → e.logical + e.length ≤ end → has b (summary number (e ∷ es)) ≡ false → extent_with b (e ∷ es) ≡ None

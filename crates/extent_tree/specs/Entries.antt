@@ -17,3 +17,11 @@ count_in bytes = do
   owner ← number_at 4 bytes
   count ← number_at 4 owner.1
   Some count.0
+
+-- the level that the front of a block tells
+unfoldable pub level_in : List ℕ → Option ℕ
+level_in bytes = do
+  owner ← number_at 4 bytes
+  count ← number_at 4 owner.1
+  level ← number_at 4 count.1
+  Some level.0

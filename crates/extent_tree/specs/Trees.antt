@@ -24,6 +24,12 @@ pub record Tree : Type 0 where
 abbrev pub runs_of : Tree → List Extent
 runs_of tree = flat (map (λ l. l.entries) tree.leaves)
 
+-- leaves and the blocks where they stand
+abbrev pub leaves_in : List (List Extent) → List ℕ → List Leaf
+leaves_in [] homes = []
+leaves_in (n ∷ ns) [] = []
+leaves_in (n ∷ ns) (h ∷ hs) = record { block = h; entries = n } ∷ leaves_in ns hs
+
 -- the entry above a leaf: the blocks from its first to its last, and its own block
 abbrev pub cover_of : Leaf → Extent
 cover_of l = summary l.block l.entries
@@ -64,12 +70,3 @@ tree_in g p owner deepest end blocks root = do
   v ← extents_of g p (blocks root)
   leaves ← leaves_below g p owner blocks root v
   if is_tree owner deepest end v leaves then Some (record { level = v.level; leaves = leaves }) else None
-
--- the block of the leaf that begins with a logical block
-abbrev pub leaf_from : ℕ → List Leaf → Option ℕ
-leaf_from k [] = None
-leaf_from k (l ∷ ls) = if (cover_of l).logical == k then Some l.block else leaf_from k ls
-
--- the block of a leaf, named by the logical block with which it begins; a root of level 0 is no leaf besides
-abbrev pub leaf_block : Tree → ℕ → Option ℕ
-leaf_block tree k = if tree.level == 0 then None else leaf_from k tree.leaves

@@ -4,7 +4,7 @@ ghost use Rattle.layout.specs.declared.geometry.Space.{Space};
 ghost use Rattle.layout.specs.Places.{Sizes};
 ghost use Rattle.layout.specs.Extents.{ExtentList, extents_of};
 ghost use Rattle.extent_tree.specs.Places.{has, extent_with};
-ghost use Rattle.extent_tree.specs.Entries.{entry_in, count_in};
+ghost use Rattle.extent_tree.specs.Entries.{entry_in, count_in, level_in};
 
 use layout::Extent;
 use layout::in_file_graph::u32_of;
@@ -33,6 +33,27 @@ pub fn find_extent(bytes: &[u8], block: u32) -> Option<Extent>
         }
     }
     None
+}
+
+/// The level of a block that spells extents, by its bytes; 0 where they are too few.
+pub fn level_of(bytes: &[u8]) -> u32
+    ensures { (g : Sizes) (s : Space) (v : ExtentList) → extents_of g s bytes.now ≡ Some v → result ≡ v.level }
+{
+    match told_level(bytes) {
+        Some(level) => level,
+        None => 0,
+    }
+}
+
+// The level that the bytes tell.
+#[tactic(auto, unfolding(crate::specs::Entries::level_in))]
+fn told_level(bytes: &[u8]) -> Option<u32>
+    ensures { result ≡ level_in bytes.now }
+{
+    let (_, rest) = u32_of(bytes)?;
+    let (_, rest) = u32_of(rest)?;
+    let (level, _) = u32_of(rest)?;
+    Some(level)
 }
 
 // How many extents the bytes tell of.

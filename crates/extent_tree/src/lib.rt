@@ -21,7 +21,7 @@ mod tree;
 mod tree_laws;
 mod upper_levels;
 
-pub use byte_search::find_extent;
+pub use byte_search::{find_extent, level_of};
 pub use extent_join::{push, push_part};
 pub use leaf_laws::few_leaves_are_made;
 pub use map::{BlockMap, Place};
@@ -29,7 +29,7 @@ pub use map_laws::{
     few_blocks_are_few_runs, put_blocks_lie_apart, put_blocks_lie_once, put_blocks_lie_within,
     whole_map_fits_a_block,
 };
-pub use node::{Found, Node};
+pub use node::{Found, Node, summary_of};
 pub use node_laws::{block_spells_a_map, map_is_spelled_by_a_block, normal_form_is_one};
 pub use node_pack::{pack, push_entries, push_summaries};
 pub use node_search::{nodes_before, nodes_up_to};

@@ -147,6 +147,7 @@ impl<const N: usize> Extents<N> {
     /// The block at which the last run ends, so that from it on none is mapped; 0 where there is no run.
     pub fn end(&self) -> u64
         ensures last { result ≡ last_end 0 self.now.runs }
+        ensures few { result < 2 ^ 32 }
         ensures none { (b : ℕ) → result ≤ b → place_of self.now.runs b ≡ None }
     {
         end_of(&self.leaves.nodes)
@@ -176,6 +177,7 @@ impl<const N: usize> Extents<N> {
     pub fn homes(&self) -> &[u32]
         ensures homes { result.now ≡ self.now.homes }
         ensures each { length result.now ≡ length self.now.leaves }
+        ensures rising { IsRising 0 4294967295 (covers_of self.now.leaves result.now) }
     {
         &self.leaves.homes
     }
@@ -272,6 +274,7 @@ fn end_of(leaves: &[Node]) -> u64
     requires rising { IsRising 0 4294967295 (flat leaves.now) }
     requires filled { AreFilled leaves.now }
     ensures last { result ≡ last_end 0 (flat leaves.now) }
+    ensures few { result < 2 ^ 32 }
     ensures none { (b : ℕ) → result ≤ b → place_of (flat leaves.now) b ≡ None }
 {
     if leaves.is_empty() {

@@ -11,20 +11,20 @@ pub mark_inode-requires : goal.mark_inode-requires
 mark_inode-requires g c =
     let old = c.args.journal.now in
     let x = c.in_ok-parts.parts in
-    room_for old.geometry (disk g.M.Media old) c.args.inode x c.in_ok-parts.ensures.slot c.in_ok-parts.ensures.extents c.args.used.now c.in_ok-parts.ensures.fits c.requires.before
+    room_for old.geometry (disk g.M.Media old) c.args.inode x c.in_ok-parts.ensures.slot c.in_ok-parts.ensures.extents c.in_ok-parts.ensures.blocks c.args.used.now c.in_ok-parts.ensures.fits c.requires.before
 
 pub returns-in-None-clause-marks : goal.returns-in-None-clause-marks
 returns-in-None-clause-marks g c =
     let old = c.args.journal.now in
     let x = c.in_ok-parts.parts in
-    marks_more old.geometry (disk g.M.Media old) c.args.inode x c.in_ok-parts.ensures.slot c.in_ok-parts.ensures.extents c.args.used.now c.mark_inode.new.used c.in_ok-parts.ensures.fits c.requires.before c.in-None.ensures.none
+    marks_more old.geometry (disk g.M.Media old) c.args.inode x c.in_ok-parts.ensures.slot c.in_ok-parts.ensures.extents c.in_ok-parts.ensures.blocks c.args.used.now c.mark_inode.new.used c.in_ok-parts.ensures.fits c.requires.before c.in-None.ensures.none
 
 pub returns-clause-damaged : goal.returns-clause-damaged
 returns-clause-damaged g c =
     let old = c.args.journal.now in
     let s = disk g.M.Media old in
     let x = c.in_ok-parts.parts in
-    let damage = clash_damage old.geometry s c.args.inode x c.in_ok-parts.ensures.slot c.in_ok-parts.ensures.extents c.args.used.now c.in-Some.tier c.requires.before c.in-Some.ensures.some in
+    let damage = clash_damage old.geometry s c.args.inode x c.in_ok-parts.ensures.slot c.in_ok-parts.ensures.extents c.in_ok-parts.ensures.blocks c.args.used.now c.in-Some.tier c.requires.before c.in-Some.ensures.some in
     subst (IsDamaged old.geometry s what.ExtentBlock) (sym c.root_of.ensures) damage
 
 pub returns-in-None-clause-units : goal.returns-in-None-clause-units

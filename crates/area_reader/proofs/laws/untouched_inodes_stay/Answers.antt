@@ -8,5 +8,5 @@ returns c = record {
   blocks = logical-kept;
   inodes = inode-kept;
   spelled = spells-kept;
-  uses = λ g old new u same. block_for-kept g old new u.inode same u.tier u.logical;
+  uses = λ g old new u same. block_for-kept g old new u.inode same u.tier u.part;
 }
