@@ -1,5 +1,5 @@
 -- What is read of a journal's medium is what the store has.
-use Rattle.std.proofs.Common.{◌≡◌, ◌≢◌, ◌≤◌, ◌<◌, ◌+◌, ◌-◌, ◌*◌, ◌^◌, ◌||◌, ◌&&◌, ℕ, List, [], ◌∷◌, Bool, true, false, cond, length, refl, sym, ◌∙◌, ap, subst, arith, Option, Some, None, Ok, inl, inr}
+use Rattle.std.proofs.Common.{◌≡◌, ◌≢◌, ◌≤◌, ◌<◌, ◌+◌, ◌-◌, ◌*◌, ◌^◌, ◌||◌, ◌&&◌, ℕ, List, [], ◌∷◌, Bool, true, false, cond, length, refl, sym, ◌∙◌, ap, subst, arith, Option, Some, None, Ok, Err, inl, inr}
 use Rattle.std.specs.Prelude.{◌==◌, nat_le, nat_lt, option_map}
 use Rattle.std.specs.List.{list_all}
 use Rattle.std.proofs.lemmas.Bool.{cases_Bool, cases_eq, cond-true, cond-false, and_parts, and_from, leb-true, le-leb, ltb-true, lt-ltb, ne_eqb, eq-eqb}
@@ -12,6 +12,7 @@ use Rattle.batch_journal.specs.layout.declared.slot.Slot.{Slot}
 use Rattle.batch_journal.specs.layout.declared.slot.Slot.TheVariants as slots
 use Rattle.batch_journal.specs.layout.declared.geometry.Space.{Space}
 use Rattle.batch_journal.specs.layout.Answers.{or_damaged}
+use Rattle.batch_journal.specs.layout.declared.error.LayoutError.{LayoutError}
 use Rattle.batch_journal.specs.layout.declared.error.What.{What}
 use Rattle.batch_journal.specs.layout.declared.extents.Extent.{Extent}
 use Rattle.batch_journal.specs.layout.Extents.{ExtentList, is_extent, is_cover, extents_of}
@@ -161,3 +162,7 @@ leaf_pooled g s i t k at is = elim (cases_eq (root_of (slot g s i) t) 0) [
 pub answered : {A : Type 0} (what : What) (block : ℕ) (o : Option A) (x : A) → Ok x ≡ or_damaged what block o → o ≡ Some x
 answered what block None x is = cc
 answered what block (Some y) x is = cc
+
+pub refused : {A : Type 0} (what : What) (block : ℕ) (o : Option A) (e : LayoutError) → Err e ≡ or_damaged what block o → o ≡ None
+refused what block None e is = refl
+refused what block (Some y) e is = cc

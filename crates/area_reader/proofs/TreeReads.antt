@@ -1,13 +1,14 @@
 -- What is read of the tree below a root.
-use Rattle.std.proofs.Common.{◌≡◌, ◌≢◌, ◌≤◌, ◌<◌, ◌+◌, ◌&&◌, ◌++◌, ℕ, List, [], ◌∷◌, length, get_or, take, length-append, true, false, Option, Some, None, refl, sym, ap, subst, ◌∙◌, arith, inl, inr}
+use Rattle.std.proofs.Common.{◌≡◌, ◌≢◌, ◌≤◌, ◌<◌, ◌+◌, ◌&&◌, ◌++◌, ℕ, zero, suc, Bool, cond, List, [], ◌∷◌, length, get_or, take, length-append, true, false, Option, Some, None, refl, sym, ap, subst, ◌∙◌, arith, inl, inr}
 use Rattle.std.specs.Prelude.{◌==◌, nat_le, option_map, Result, Ok, Err, IfOk, IfErr}
 use Rattle.std.specs.List.{list_all}
-use Rattle.std.proofs.lemmas.Bool.{cases_eq, cond-true, cond-false, and_from, eq-eqb, ne_eqb, le-leb}
+use Rattle.std.proofs.lemmas.Bool.{cases_eq, cond-true, cond-false, and_parts, and_from, eq-eqb, ne_eqb, le-leb}
 use Rattle.std.proofs.lemmas.List.{append-nil, take_all, take_more}
 use Rattle.batch_journal.specs.Blocks.{Blocks}
 use Rattle.batch_journal.specs.layout.declared.extents.Extent.{Extent}
-use Rattle.batch_journal.specs.layout.Extents.{ExtentList, is_extent, extents_of}
-use Rattle.batch_journal.specs.layout.Places.{Sizes, IsAllowed, blocks_in}
+use Rattle.batch_journal.specs.layout.Extents.{ExtentList, is_extent, is_cover, extents_of}
+use Rattle.batch_journal.specs.layout.Places.{Sizes, IsAllowed, blocks_in, is_node}
+use Rattle.batch_journal.specs.layout.declared.geometry.Space.{Space}
 use Rattle.extent_tree.specs.Nodes.{flat, HaveFrom, AreFilled}
 use Rattle.extent_tree.specs.Normal.{IsRising, PlacesFit, IsMap}
 use Rattle.extent_tree.specs.Places.{end_of}
@@ -28,6 +29,26 @@ use Rattle.area_reader.proofs.Shown.{extents_none, extents_some, covers_none, co
 use Rattle.area_reader.proofs.Trees.{listed, listed_in, leaves_in-more, leaves_begin, leaves_more, leaves_none, leaves_shape, told_covers, lowest_below, above_below, tree_by_leaves, tree_without}
 
 -- ---- leaves, one after the other
+
+pub got_itself : {A : Type 0} (xs : List A) (k : ℕ) (d e : A) → k < length xs → get_or xs k e ≡ get_or xs k d
+got_itself [] k d e lt = absurd (omega (arith, lt))
+got_itself (x ∷ xs) zero d e lt = refl
+got_itself (x ∷ xs) (suc k) d e lt = got_itself xs k d e (omega (arith, lt))
+
+-- an entry of a root names a block of the node pool
+pub cover_pooled : (g : Sizes) (p : Space) (cs : List Extent) (k : ℕ) (d : Extent) → list_all (is_cover g p) cs ≡ true → k < length cs → is_node g (get_or cs k d).place ≡ true
+cover_pooled g p [] k d each lt = absurd (omega (arith, lt))
+cover_pooled g p (c ∷ cs) zero d each lt =
+    let one = (and_parts (is_cover g p c) (list_all (is_cover g p) cs) each).0 in
+    let a = and_parts (nat_le 1 c.length) (nat_le (c.logical + c.length) (blocks_in p) && is_node g c.place) one in
+    (and_parts (nat_le (c.logical + c.length) (blocks_in p)) (is_node g c.place) a.1).1
+cover_pooled g p (c ∷ cs) (suc k) d each lt = cover_pooled g p cs k d (and_parts (is_cover g p c) (list_all (is_cover g p) cs) each).1 (omega (arith, lt))
+
+-- what stands above level 0 are entries for leaves
+pub covers_each : (g : Sizes) (p : Space) (bytes : List ℕ) (v : ExtentList) → extents_of g p bytes ≡ Some v → v.level ≢ 0 → list_all (is_cover g p) v.extents ≡ true
+covers_each g p bytes v read above =
+    let each = (list-parts g p v (extents_fit g p bytes v read)).each in
+    subst (λ (b : Bool). list_all (λ e. cond b (is_extent g p e) (is_cover g p e)) v.extents ≡ true) (ne_eqb v.level 0 above) each
 
 module _ (g : Sizes) (fast : Blocks) (at : TreePlace) where
   pub covered_none : AreCovered g fast at [] [] []

@@ -143,7 +143,11 @@ fn read_root<M: Media>(
 {
     let list = read_list(alloc, journal, at.space, at.root)?;
     let is_allowed = allows_level(journal, list.level())?;
-    if list.owner() != at.inode || !is_allowed {
+    let is_own = list.owner() == at.inode;
+    if !is_own {
+        return Err(list_damaged(at.root));
+    }
+    if !is_allowed {
         return Err(list_damaged(at.root));
     }
     Ok(list)
@@ -242,10 +246,11 @@ fn read_leaves<M: Media>(
     ensures damaged { IfErr result (λ e. OnDamage e (λ w block. (w ≡ what.ExtentBlock) × (root.now.level ≢ 0) × IsBadCover journal.old.geometry (disk M.Media journal.old tiers.Fast) at root.now.extents block)) }
     ensures looks { Looks M.Media journal.old journal.new result }
 {
+    let entries = root.extents();
     if root.level() == 0 {
-        return lowest_leaf(alloc, root.extents());
+        return lowest_leaf(alloc, entries);
     }
-    covered_leaves(alloc, journal, at, root.extents())
+    covered_leaves(alloc, journal, at, entries)
 }
 
 // The one leaf of a tree of level 0, which is its root; none where the root lists nothing.

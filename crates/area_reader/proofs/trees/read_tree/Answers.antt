@@ -8,7 +8,7 @@ use Rattle.batch_journal.specs.layout.Places.{is_node}
 use Rattle.area_reader.specs.Store.{root_of}
 use Rattle.area_reader.specs.Map.{HasTree, ShowsNoTree, root_in}
 use Rattle.area_reader.specs.declared.trees.TreePlace.{TreePlace}
-use Rattle.area_reader.proofs.Looked.{looks_answer, looks_err, looks_none, looks_failed}
+use Rattle.area_reader.proofs.Looked.{looks_answer, looks_none, looks_failed}
 use Rattle.area_reader.proofs.Parts.{on_damage}
 use Rattle.area_reader.proofs.TreeReads.{has_none, has_some}
 use Rattle.area_reader.proofs.trees.read_tree.Goals as goal
@@ -33,12 +33,6 @@ read_below-requires g c =
     let old = c.args.journal.now in
     let some : root_of c.args.slot.now c.args.tier ≢ 0 = λ e. c.if-root-eq0.false (c.root_of-root.ensures ∙ e) in
     subst (λ (at : TreePlace). is_node old.geometry at.root ≡ true) (sym c.root_in.ensures) (c.requires some)
-
-pub returns-in_err-tree-clause-looks : goal.returns-in_err-tree-clause-looks
-returns-in_err-tree-clause-looks g c =
-    let m = g.M.Media in
-    let p = err_from_is_err_and c.from_residual.result c.from_residual.ensures.1 in
-    rw (p.1, p.2) (looks_err m c.args.journal.now c.read_below.new.journal c.in_err-tree.field-0.0 c.in_err-tree.ensures.looks)
 
 pub returns-in_err-tree-clause-damaged : goal.returns-in_err-tree-clause-damaged
 returns-in_err-tree-clause-damaged g c =
