@@ -1,7 +1,7 @@
 -- Where a logical block lies, by the root that the slot of its inode names.
 use Rattle.std.proofs.Common.{◌≡◌, ◌≢◌, ◌≤◌, ◌∙◌, ℕ, List, [], ◌∷◌, true, Option, Some, None, refl, sym, ap, subst, arith, inl, inr}
 use Rattle.std.specs.Prelude.{Result, Ok, Err, IfOk, IfSome, IfNone, IsSome, option_map, unwrap_or}
-use Rattle.std.proofs.lemmas.Bool.{cases_Bool, cond-false, false≢true}
+use Rattle.std.proofs.lemmas.Bool.{cases_Bool, cases_eq, cond-false, and_parts, false≢true}
 use Rattle.std.proofs.lemmas.List.{append-nil}
 use Rattle.tier_device.specs.declared.media.Tier.{Tier}
 use Rattle.tier_device.specs.declared.media.Tier.TheVariants.{Fast, Block, Slow}
@@ -10,11 +10,12 @@ use Rattle.batch_journal.specs.layout.declared.places.TheConstants.{FILE_BLOCKS}
 use Rattle.batch_journal.specs.layout.declared.slot.Slot.{Slot}
 use Rattle.batch_journal.specs.layout.Places.{Sizes, is_inode, is_node}
 use Rattle.batch_journal.specs.layout.Slot.{slot_of, fits_slot}
-use Rattle.batch_journal.specs.layout.Extents.{ExtentList, extents_of}
+use Rattle.batch_journal.specs.layout.Extents.{ExtentList, is_cover, extents_of}
+use Rattle.std.specs.List.{list_all}
 use Rattle.batch_journal.specs.layout.Bytes.{◌>>=◌}
 use Rattle.batch_journal.specs.Blocks.{Blocks}
 use Rattle.extent_tree.specs.Nodes.{flat}
-use Rattle.extent_tree.specs.Places.{has, extent_with, place_of}
+use Rattle.extent_tree.specs.Places.{has, place_in, extent_with, place_of}
 use Rattle.extent_tree.specs.Trees.{Leaf, Tree, runs_of, leaves_at, leaves_below}
 use Rattle.extent_tree.proofs.Maps.{at-here, at-later}
 use Rattle.extent_tree.proofs.Spelled.{list-parts}
@@ -25,7 +26,8 @@ use Rattle.area_reader.specs.declared.trees.TreePlace.{TreePlace}
 use Rattle.area_reader.specs.Format.{IsSpelled}
 use Rattle.area_reader.proofs.Lists.{some_is, slot_here_fits, extents_fit}
 use Rattle.area_reader.proofs.Placed.{place_placed}
-use Rattle.area_reader.proofs.Trees.{listed, leaves_parts, lowest_below, above_below, covered}
+use Rattle.area_reader.proofs.Trees.{listed, leaf_parts, leaves_parts, lowest_below, above_below, covered}
+use Rattle.area_reader.proofs.TreeReads.{cover_pooled, covers_each}
 use Rattle.area_reader.proofs.Parts.{slot_as, extents_as}
 use Rattle.area_reader.proofs.Shown.{slot_limits, extents_none, extents_some}
 
@@ -111,6 +113,62 @@ module _ (g : Sizes) (fast : Blocks) (at : TreePlace) (b : ℕ) (v : ExtentList)
           let parts = tree_parts g at.space at.inode (deepest fast) at.blocks fast at.root tree is' in
           let same : parts.list ≡ v = some_is parts.list v (sym parts.spelled ∙ read) in
           first v.extents tree.leaves (sym (above_below g at.space at.inode fast at.root v above) ∙ ap (leaves_below g at.space at.inode fast at.root) (sym same) ∙ parts.below) is
+
+if_some_map : {A : Type 0} {P Q : A → Type 0} (o : Option A) → ((x : A) → P x → Q x) → IfSome o P → IfSome o Q
+if_some_map None f p = tt
+if_some_map (Some x) f p = f x p
+
+-- what is found below a root whose list is known
+module _ (g : Sizes) (fast : Blocks) (at : TreePlace) (b : ℕ) where
+  pub root_spelled : IsSome (tree_below g fast at) → (v : ExtentList) × (extents_of g at.space (fast at.root) ≡ Some v)
+  root_spelled there = by (tree_below g fast at) refl there
+    where
+      by : (o : Option Tree) → tree_below g fast at ≡ o → IsSome o → (v : ExtentList) × (extents_of g at.space (fast at.root) ≡ Some v)
+      by None is there = absurd (false≢true there)
+      by (Some tree) is there = let parts = tree_parts g at.space at.inode (deepest fast) at.blocks fast at.root tree is in (parts.list, parts.spelled)
+
+  pub leaf_spelled : (c : Extent) → IsSome (leaf_below g fast at c) → (v : ExtentList) × (extents_of g at.space (fast c.place) ≡ Some v) × IfSome (leaf_below g fast at c) (λ l. l.entries ≡ v.extents)
+  leaf_spelled c there = by (leaf_below g fast at c) refl there
+    where
+      by : (o : Option Leaf) → leaf_below g fast at c ≡ o → IsSome o → (v : ExtentList) × (extents_of g at.space (fast c.place) ≡ Some v) × IfSome o (λ l. l.entries ≡ v.extents)
+      by None is there = absurd (false≢true there)
+      by (Some l) is there = let parts = leaf_parts g at.space at.inode fast c l is in (parts.list, parts.spelled, parts.entries)
+
+  module _ (v : ExtentList) (read : extents_of g at.space (fast at.root) ≡ Some v) where
+    pub none_found : None ≡ extent_with b v.extents → IfSome (tree_below g fast at) (λ tree. None ≡ place_of (runs_of tree) b)
+    none_found none = elim (cases_eq v.level 0) [
+      | inl lowest ↦ if_some_map (tree_below g fast at) (λ tree is. ap (option_map (place_in b)) (none ∙ sym is)) (found_lowest g fast at b v read lowest)
+      | inr above ↦ if_some_map (tree_below g fast at) (λ tree is. ap (option_map (place_in b)) (ap (λ o. o >>= λ c. leaf_below g fast at c >>= λ l. extent_with b l.entries) none ∙ sym is)) (found_above g fast at b v read above)
+    ]
+
+    pub lowest_found : v.level ≡ 0 → (e : Extent) → Some e ≡ extent_with b v.extents → IfSome (tree_below g fast at) (λ tree. Some (place_in b e) ≡ place_of (runs_of tree) b)
+    lowest_found lowest e is = if_some_map (tree_below g fast at) (λ tree same. ap (option_map (place_in b)) (is ∙ sym same)) (found_lowest g fast at b v read lowest)
+
+    pub leaf_found : v.level ≢ 0 → (c : Extent) → Some c ≡ extent_with b v.extents → (found : Option ℕ) → IsSome (leaf_below g fast at c) → IfSome (leaf_below g fast at c) (λ l. found ≡ place_of l.entries b) → IfSome (tree_below g fast at) (λ tree. found ≡ place_of (runs_of tree) b)
+    leaf_found above c is found there told =
+        if_some_map (tree_below g fast at) (λ tree same. in_leaf (leaf_below g fast at c) there told ∙ ap (option_map (place_in b)) (ap (λ o. o >>= λ c. leaf_below g fast at c >>= λ l. extent_with b l.entries) is ∙ sym same)) (found_above g fast at b v read above)
+      where
+        in_leaf : (o : Option Leaf) → IsSome o → IfSome o (λ l. found ≡ place_of l.entries b) → found ≡ option_map (place_in b) (o >>= λ l. extent_with b l.entries)
+        in_leaf None there told = absurd (false≢true there)
+        in_leaf (Some l) there told = told
+
+    -- an entry of a root names a block of the node pool
+    pub entry_pooled : v.level ≢ 0 → (c : Extent) → Some c ≡ extent_with b v.extents → is_node g c.place ≡ true
+    entry_pooled above c is = of_list v.extents (covers_each g at.space (fast at.root) v read above) is
+      where
+        of_list : (cs : List Extent) → list_all (is_cover g at.space) cs ≡ true → Some c ≡ extent_with b cs → is_node g c.place ≡ true
+        of_list [] each is = absurd cc
+        of_list (d ∷ cs) each is = elim (cases_Bool (has b d)) [
+          | inl its ↦ let same : d ≡ c = some_is d c (sym (at-here b d cs its) ∙ sym is) in subst (λ (x : Extent). is_node g x.place ≡ true) same (cover_pooled g at.space (d ∷ cs) 0 d each (omega arith))
+          | inr other ↦ of_list cs (and_parts (is_cover g at.space d) (list_all (is_cover g at.space) cs) each).1 (is ∙ at-later b d cs other)
+        ]
+
+    pub has_leaf : v.level ≢ 0 → IsSome (tree_below g fast at) → (c : Extent) → Some c ≡ extent_with b v.extents → IsSome (leaf_below g fast at c)
+    has_leaf above there c is = leaf_there g fast at b v read above there c (sym is)
+
+-- what is found in a leaf
+pub in_leaf_found : (b : ℕ) (v : ExtentList) (o : Option Leaf) (e : Option Extent) → IfSome o (λ l. l.entries ≡ v.extents) → e ≡ extent_with b v.extents → IfSome o (λ l. option_map (place_in b) e ≡ place_of l.entries b)
+in_leaf_found b v o e entries is = if_some_map o (λ l same. ap (option_map (place_in b)) (is ∙ ap (extent_with b) (sym same))) entries
 
 -- no inode has a logical block behind those of the greatest file
 pub none_behind : (g : Sizes) (s : Store) (i : ℕ) (t : Tier) (k : ℕ) → FILE_BLOCKS ≤ k → place g s i t k ≡ None
