@@ -18,7 +18,7 @@ use Rattle.area_reader.specs.Map.{place_by}
 use Rattle.area_reader.specs.Checks.{HasFound, IsFileOfSize, IsTailDamageOf}
 use Rattle.area_reader.specs.declared.tiers.InodeExtents.{InodeExtents}
 use Rattle.area_reader.proofs.Damages.{option_cases, at_none}
-use Rattle.area_reader.proofs.Lists.{place_placed}
+use Rattle.area_reader.proofs.Placed.{place_placed}
 
 -- a byte of what is zero is zero
 zero_at : (bytes : List ℕ) (k : ℕ) → are_zero bytes ≡ true → get_or bytes k 0 ≡ 0

@@ -34,8 +34,8 @@ pub mod in_layout {
     pub use layout::{
         BLOCK, CLIENTS, DirEntries, EntryRef, Extent, ExtentBlock, FILE_BLOCKS, FIRST_NODE_BLOCK,
         FIRST_SLOT_BLOCK, FIRST_VERSION, Geometry, Image, LAST_VERSION, LEAST_EXTENTS, LayoutError,
-        MARKS_BLOCK, MAX_EXTENTS, MAX_IN_BLOCK, Mark, Marks, SLOT_SIZE, SLOTS_IN_BLOCK, SUPER_BLOCK,
-        Slot, Space, Super, What, are_zero, extents_are_read, marks_are_read, slot_block, slot_byte,
-        slot_is_read, slot_is_spelled,
+        MARKS_BLOCK, MAX_EXTENTS, MAX_IN_BLOCK, Mark, Marks, SLOT_SIZE, SLOTS_IN_BLOCK,
+        SUPER_BLOCK, Slot, Space, Super, What, are_zero, extents_are_read, marks_are_read,
+        slot_block, slot_byte, slot_is_read, slot_is_spelled,
     };
 }

@@ -39,7 +39,7 @@ pub fn find_extent(bytes: &[u8], block: u32) -> Option<Extent>
 pub fn level_of(bytes: &[u8]) -> u32
     ensures { (g : Sizes) (s : Space) (v : ExtentList) → extents_of g s bytes.now ≡ Some v → result ≡ v.level }
 {
-    match told_level(bytes) {
+    match stated_level(bytes) {
         Some(level) => level,
         None => 0,
     }
@@ -47,7 +47,7 @@ pub fn level_of(bytes: &[u8]) -> u32
 
 // The level that the bytes tell.
 #[tactic(auto, unfolding(crate::specs::Entries::level_in))]
-fn told_level(bytes: &[u8]) -> Option<u32>
+fn stated_level(bytes: &[u8]) -> Option<u32>
     ensures { result ≡ level_in bytes.now }
 {
     let (_, rest) = u32_of(bytes)?;

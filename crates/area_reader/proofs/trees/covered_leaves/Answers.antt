@@ -48,12 +48,15 @@ returns-in_err-add_leaf-clause-damaged g c =
     let old = c.args.journal.now in
     let cover : Extent = get_or c.args.covers.now c.covers.index no_cover in
     let p = err_from_is_err_and c.from_residual.result c.from_residual.ensures.1 in
-    rw (p.1, p.2) (on_damage c.in_err-add_leaf.field-0.0 (λ w b d. (d.0, record {
-      cover = cover;
-      listed = (c.covers.index, c.covers-test.true, got_itself c.args.covers.now c.covers.index no_cover cover c.covers-test.true);
-      is = d.1;
-      none = carried_back m (λ x s. leaf_below x (s Fast) c.args.at cover ≡ None) old c.covers.journal call_answer c.covers.invariant.looks d.2;
-    })) c.in_err-add_leaf.ensures.damaged)
+    rw (p.1, p.2) (on_damage c.in_err-add_leaf.field-0.0 (λ w b d. (
+      d.0,
+      record {
+        cover = cover;
+        listed = (c.covers.index, c.covers-test.true, got_itself c.args.covers.now c.covers.index no_cover cover c.covers-test.true);
+        is = d.1;
+        none = carried_back m (λ x s. leaf_below x (s Fast) c.args.at cover ≡ None) old c.covers.journal call_answer c.covers.invariant.looks d.2;
+      },
+    )) c.in_err-add_leaf.ensures.damaged)
 
 pub returns-in_err-add_leaf-clause-looks : goal.returns-in_err-add_leaf-clause-looks
 returns-in_err-add_leaf-clause-looks g c =

@@ -32,8 +32,11 @@ returns-in_err-leaves-clause-damaged g c =
     let at = c.args.at in
     let v = c.in_ok-root.root in
     let p = err_from_is_err_and c.from_residual-in_err-leaves.result c.from_residual-in_err-leaves.ensures.1 in
-    rw (p.1, p.2) (on_damage c.in_err-leaves.field-0.0 (λ w b d. (d.0, bad_leaf old.geometry (disk m old Fast) at v c.in_ok-root.ensures.list d.1 b
-    (carried_back m (λ x s. IsBadCover x (s Fast) at v.extents b) old c.read_root.new.journal (Ok v) c.in_ok-root.ensures.looks d.2))) c.in_err-leaves.ensures.damaged)
+    rw (p.1, p.2) (on_damage c.in_err-leaves.field-0.0 (λ w b d. (
+      d.0,
+      bad_leaf old.geometry (disk m old Fast) at v c.in_ok-root.ensures.list d.1 b
+          (carried_back m (λ x s. IsBadCover x (s Fast) at v.extents b) old c.read_root.new.journal (Ok v) c.in_ok-root.ensures.looks d.2),
+    )) c.in_err-leaves.ensures.damaged)
 
 pub returns-in_err-leaves-clause-memory : goal.returns-in_err-leaves-clause-memory
 returns-in_err-leaves-clause-memory g c =
