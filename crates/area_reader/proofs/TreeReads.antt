@@ -89,7 +89,7 @@ module _ (g : Sizes) (fast : Blocks) (at : TreePlace) where
     module _ (nodes : List (List Extent)) (homes : List ℕ) (below : AreBelow g fast at v nodes homes) where
       record Shape : Type 0 where
         pub leaves : List Leaf
-        pub read : leaves_below g at.space at.inode fast at.root v ≡ Some leaves
+        pub leaves_are : leaves_below g at.space at.inode fast at.root v ≡ Some leaves
         pub runs : flat nodes ≡ flat (listed leaves)
         pub rising : IsRising 0 (blocks_in at.space) (flat nodes)
         pub each : list_all (is_extent g at.space) (flat nodes) ≡ true
@@ -119,7 +119,7 @@ module _ (g : Sizes) (fast : Blocks) (at : TreePlace) where
             let runs : flat nodes ≡ v.extents = ap flat low.0 ∙ flat_one v.extents in
             record {
               leaves = record { block = at.root; entries = v.extents } ∷ [];
-              read = lowest_below g at.space at.inode fast at.root v lowest;
+              leaves_are = lowest_below g at.space at.inode fast at.root v lowest;
               runs = runs ∙ sym (append-nil v.extents);
               rising = subst (IsRising 0 (blocks_in at.space)) (sym runs) (sorted-rising g at.space v.level 0 v.extents fits.sorted fits.each);
               each = subst (λ (es : List Extent). list_all (is_extent g at.space) es ≡ true) (sym runs) (lowest-each g at.space v lowest fits);
@@ -133,7 +133,7 @@ module _ (g : Sizes) (fast : Blocks) (at : TreePlace) where
             let have : HaveFrom 85 340 nodes = subst (HaveFrom 85 340) nodes_are of_leaves.least in
             record {
               leaves = leaves_in nodes homes;
-              read = above_below g at.space at.inode fast at.root v high ∙ covered.read;
+              leaves_are = above_below g at.space at.inode fast at.root v high ∙ covered.read;
               runs = ap flat (sym nodes_are);
               rising = subst (λ (ns : List (List Extent)). IsRising 0 (blocks_in at.space) (flat ns)) nodes_are of_leaves.rising;
               each = subst (λ (ns : List (List Extent)). list_all (is_extent g at.space) (flat ns) ≡ true) nodes_are of_leaves.each;
@@ -156,16 +156,26 @@ module _ (g : Sizes) (fast : Blocks) (at : TreePlace) where
       tested owner depth = ap (λ b. b && list_all (λ e. nat_le (end_of e) at.blocks) (flat (listed shape.leaves))) (and_from (v.owner == at.inode) (nat_le v.level (deepest fast)) (eq-eqb v.owner at.inode owner) (le-leb v.level (deepest fast) depth)) ∙ ap (list_all (λ e. nat_le (end_of e) at.blocks)) (sym shape.runs)
 
       pub too_long : v.owner ≡ at.inode → v.level ≤ deepest fast → list_all (λ e. nat_le (end_of e) at.blocks) (flat nodes) ≡ false → tree_below g fast at ≡ None
-      too_long owner depth past = tree_by_leaves g at.space at.inode fast (deepest fast) at.blocks at.root v shape.leaves read shape.read ∙ cond-false (is_tree at.inode (deepest fast) at.blocks v shape.leaves) _ _ (tested owner depth ∙ past)
+      too_long owner depth past = tree_by_leaves g at.space at.inode fast (deepest fast) at.blocks at.root v shape.leaves read shape.leaves_are ∙ cond-false (is_tree at.inode (deepest fast) at.blocks v shape.leaves) _ _ (tested owner depth ∙ past)
 
       pub is_there : v.owner ≡ at.inode → v.level ≤ deepest fast → list_all (λ e. nat_le (end_of e) at.blocks) (flat nodes) ≡ true → tree_below g fast at ≡ Some (record { level = v.level; leaves = shape.leaves })
-      is_there owner depth ends = tree_by_leaves g at.space at.inode fast (deepest fast) at.blocks at.root v shape.leaves read shape.read ∙ cond-true (is_tree at.inode (deepest fast) at.blocks v shape.leaves) _ _ (tested owner depth ∙ ends)
+      is_there owner depth ends = tree_by_leaves g at.space at.inode fast (deepest fast) at.blocks at.root v shape.leaves read shape.leaves_are ∙ cond-true (is_tree at.inode (deepest fast) at.blocks v shape.leaves) _ _ (tested owner depth ∙ ends)
+
+      covers_are : (x : TierTree) → x.level ≡ v.level → x.extents.leaves ≡ nodes → x.extents.homes ≡ homes → listed_leaves (Some v) ≡ covers_told x
+      covers_are x level leaves homes_are = elim (cases_eq v.level 0) [
+        | inl lowest ↦ cond-true (v.level == 0) [] v.extents (eq-eqb v.level 0 lowest) ∙ sym (cond-true (x.level == 0) [] (covers_of x.extents.leaves x.extents.homes) (eq-eqb x.level 0 (level ∙ lowest)))
+        | inr high ↦
+            cond-false (v.level == 0) [] v.extents (ne_eqb v.level 0 high)
+            ∙ told_covers g at.space at.inode 0 fast v.extents nodes homes fits.sorted (below.above high).read
+            ∙ (λ i. covers_of (sym leaves i) (sym homes_are i))
+            ∙ sym (cond-false (x.level == 0) [] (covers_of x.extents.leaves x.extents.homes) (ne_eqb x.level 0 (λ e. high (sym level ∙ e))))
+      ]
 
       pub has_tree : IsAllowed g → v.owner ≡ at.inode → v.level ≤ deepest fast → list_all (λ e. nat_le (end_of e) at.blocks) (flat nodes) ≡ true → (x : TierTree) → x.level ≡ v.level → x.extents.leaves ≡ nodes → x.extents.homes ≡ homes → x.extents.runs ≡ flat nodes → x.extents.left ≡ [] → HasTree g fast at x
       has_tree allowed owner depth ends x level leaves homes_are runs left = record {
         tree = record { level = v.level; leaves = shape.leaves };
         is = is_there owner depth ends;
-        read = record {
+        held = record {
           level = level;
           runs = runs ∙ shape.runs;
           lowest = λ lowest. ap leaf_blocks homes_are ∙ (below.lowest lowest).1;
@@ -173,15 +183,8 @@ module _ (g : Sizes) (fast : Blocks) (at : TreePlace) where
           homed = ap length homes_are ∙ below.homed ∙ sym (ap length leaves);
           left = left;
         };
-        covers = ap listed_leaves read ∙ elim (cases_eq v.level 0) [
-          | inl lowest ↦ cond-true (v.level == 0) [] v.extents (eq-eqb v.level 0 lowest) ∙ sym (cond-true (x.level == 0) [] (covers_of x.extents.leaves x.extents.homes) (eq-eqb x.level 0 (level ∙ lowest)))
-          | inr high ↦
-              cond-false (v.level == 0) [] v.extents (ne_eqb v.level 0 high)
-              ∙ told_covers g at.space at.inode 0 fast v.extents nodes homes fits.sorted (below.above high).read
-              ∙ (λ i. covers_of (sym leaves i) (sym homes_are i))
-              ∙ sym (cond-false (x.level == 0) [] (covers_of x.extents.leaves x.extents.homes) (ne_eqb x.level 0 (λ e. high (sym level ∙ e))))
-        ];
-        map = subst IsMap (sym runs) (map_of allowed);
+        covers = ap listed_leaves read ∙ covers_are x level leaves homes_are;
+        spells = subst IsMap (sym runs) (map_of allowed);
         each = subst (λ (es : List Extent). list_all (is_extent g at.space) es ≡ true) (sym runs) shape.each;
       }
 
@@ -204,7 +207,7 @@ no_some x e = cc
 
 pub has_some : (g : Sizes) (fast : Blocks) (i : ℕ) (slot : Slot) (t : Tier) (x : TierTree) → root_of slot t ≢ 0 → HasTree g fast (root_in i slot t) x → HasExtents g fast i slot t (Some x)
 has_some g fast i slot t x some has = record {
-  extents = extents_some g fast i slot t some ∙ ap (option_map runs_of) has.is ∙ ap Some (sym has.read.runs);
+  extents = extents_some g fast i slot t some ∙ ap (option_map runs_of) has.is ∙ ap Some (sym has.held.runs);
   covers = covers_some g fast slot t some ∙ has.covers;
   none = (λ e. absurd (no_some x e), λ zero. absurd (some zero));
   tree = has;

@@ -1,5 +1,5 @@
 -- The tree below a root, leaf by leaf.
-use Rattle.std.proofs.Common.{◌≡◌, ◌≢◌, ◌≤◌, ◌<◌, ◌+◌, ◌-◌, ◌&&◌, ◌++◌, ◌⊎◌, ℕ, zero, suc, List, [], ◌∷◌, length, get_or, Bool, true, false, cond, Option, Some, None, refl, sym, ap, subst, ◌∙◌, arith, inl, inr}
+use Rattle.std.proofs.Common.{◌≡◌, ◌≢◌, ◌≤◌, ◌<◌, ◌+◌, ◌-◌, ◌&&◌, ◌++◌, ℕ, zero, suc, List, [], ◌∷◌, length, get_or, Bool, true, false, Option, Some, None, refl, sym, ap, subst, ◌∙◌, arith, inl, inr}
 use Rattle.std.specs.Prelude.{◌==◌, nat_le, map, option_or, if◌then◌else◌}
 use Rattle.std.specs.List.{list_all}
 use Rattle.std.proofs.lemmas.Bool.{cases_Bool, cases_eq, cond-true, cond-false, and_parts, and_from, leb-true, le-leb, eqb-true, eq-eqb, ne_eqb}
@@ -8,7 +8,7 @@ use Rattle.std.proofs.lemmas.List.Folds.{list_all-append}
 use Rattle.batch_journal.specs.layout.Bytes.{◌>>=◌}
 use Rattle.batch_journal.specs.layout.declared.geometry.Space.{Space}
 use Rattle.batch_journal.specs.layout.declared.extents.Extent.{Extent}
-use Rattle.batch_journal.specs.layout.Extents.{ExtentList, is_extent, is_cover, is_entry, are_sorted, fits_extents, extents_of}
+use Rattle.batch_journal.specs.layout.Extents.{ExtentList, is_extent, are_sorted, extents_of}
 use Rattle.batch_journal.specs.layout.Places.{Sizes, blocks_in}
 use Rattle.batch_journal.specs.Blocks.{Blocks}
 use Rattle.extent_tree.specs.Nodes.{flat, last_end, summary, HaveFrom}
@@ -119,7 +119,7 @@ module _ (g : Sizes) (p : Space) (owner : ℕ) (blocks : Blocks) where
   unfolding leaves_at
   leaves_none [] k d lt none = absurd (omega (arith, lt))
   leaves_none (c ∷ cs) zero d lt none = ap (λ o. o >>= λ first. leaves_at g p owner blocks cs >>= λ others. Some (first ∷ others)) none
-  leaves_none (c ∷ cs) (suc k) d lt none = bind_none (leaf_at g p owner blocks c) _ (λ first. ap (λ o. o >>= λ others. Some (first ∷ others)) (leaves_none cs k d (omega (arith, lt)) none))
+  leaves_none (c ∷ cs) (suc k) d lt none = bind_none (leaf_at g p owner blocks c) (λ first. leaves_at g p owner blocks cs >>= λ others. Some (first ∷ others)) (λ first. ap (λ o. o >>= λ others. Some (first ∷ others)) (leaves_none cs k d (omega (arith, lt)) none))
 
   pub leaves_more : (cs : List Extent) (c : Extent) (ls : List Leaf) (l : Leaf) → leaves_at g p owner blocks cs ≡ Some ls → leaf_at g p owner blocks c ≡ Some l → leaves_at g p owner blocks (cs ++ c ∷ []) ≡ Some (ls ++ l ∷ [])
   unfolding leaves_at
@@ -133,12 +133,12 @@ module _ (g : Sizes) (p : Space) (owner : ℕ) (blocks : Blocks) where
 
   -- ---- what leaves that rise come to
 
-  record Between (c : Extent) (low end : ℕ) (es : List Extent) : Type 0 where
+  record Between (c : Extent) (end : ℕ) (es : List Extent) : Type 0 where
     rising : IsRising c.logical (c.logical + c.length) es
     some : 0 < c.length
     last : c.logical + c.length ≤ end
 
-  between : (b end : ℕ) (c : Extent) (es : List Extent) → 0 < length es → IsRising 0 end es → c ≡ summary b es → Between c 0 end es
+  between : (b end : ℕ) (c : Extent) (es : List Extent) → 0 < length es → IsRising 0 end es → c ≡ summary b es → Between c end es
   between b end c [] some is cover = absurd (omega (arith, some))
   between b end c (e ∷ es) some is cover =
       let first : c.logical ≡ e.logical = ap (λ (x : Extent). x.logical) cover in
@@ -157,7 +157,7 @@ module _ (g : Sizes) (p : Space) (owner : ℕ) (blocks : Blocks) where
       }
 
   -- what a leaf lists, below the entry that covers it
-  leaf_between : (c : Extent) (l : Leaf) → LeafParts c l → Between c 0 (blocks_in p) l.entries
+  leaf_between : (c : Extent) (l : Leaf) → LeafParts c l → Between c (blocks_in p) l.entries
   leaf_between c l one =
       let parts = list-parts g p one.list (extents_fit g p (blocks c.place) one.list one.spelled) in
       let rises = sorted-rising g p one.list.level 0 one.list.extents parts.sorted parts.each in
@@ -216,7 +216,7 @@ module _ (g : Sizes) (p : Space) (owner : ℕ) (blocks : Blocks) where
             whole ∙ ap (option_or (extent_with b x.first.entries)) none ∙ or-none (extent_with b x.first.entries)
             ∙ sym (ap (λ o. o >>= λ c. leaf_at g p owner blocks c >>= λ l. extent_with b l.entries) (at-here b c cs its) ∙ ap (λ o. o >>= λ l. extent_with b l.entries) x.read)
         | inr other ↦
-            let none = elim (has-out b c other) [ inl low ↦ none-before b c.logical (c.logical + c.length) x.first.entries here low | inr high ↦ none-behind b c.logical (c.logical + c.length) x.first.entries here high ] in
+            let none : extent_with b x.first.entries ≡ None = elim (has-out b c other) [ inl low ↦ none-before b c.logical (c.logical + c.length) x.first.entries here low | inr high ↦ none-behind b c.logical (c.logical + c.length) x.first.entries here high ] in
             whole ∙ ap (λ o. option_or o (extent_with b (flat (listed x.others)))) none ∙ covered (c.logical + c.length) cs x.others s.1 x.rest b
             ∙ sym (ap (λ o. o >>= λ c. leaf_at g p owner blocks c >>= λ l. extent_with b l.entries) (at-later b c cs other))
       ]
@@ -238,7 +238,7 @@ module _ (g : Sizes) (p : Space) (owner : ℕ) (blocks : Blocks) where
 
   -- of another inode, or of too high a level
   pub tree_other : (d end root : ℕ) (v : ExtentList) → extents_of g p (blocks root) ≡ Some v → ((v.owner == owner) && nat_le v.level d) ≡ false → tree_in g p owner d end blocks root ≡ None
-  tree_other d end root v read other = tree_by_list d end root (Some v) read ∙ bind_none (leaves_below g p owner blocks root v) _ (λ leaves. cond-false (is_tree owner d end v leaves) _ _ (and_left ((v.owner == owner) && nat_le v.level d) (list_all (λ e. nat_le (end_of e) end) (runs_of (record { level = v.level; leaves = leaves }))) other))
+  tree_other d end root v read other = tree_by_list d end root (Some v) read ∙ bind_none (leaves_below g p owner blocks root v) (λ leaves. if is_tree owner d end v leaves then Some (record { level = v.level; leaves = leaves }) else None) (λ leaves. cond-false (is_tree owner d end v leaves) _ _ (and_left ((v.owner == owner) && nat_le v.level d) (list_all (λ e. nat_le (end_of e) end) (runs_of (record { level = v.level; leaves = leaves }))) other))
 
   pub wrong_owner : (d : ℕ) (v : ExtentList) → v.owner ≢ owner → ((v.owner == owner) && nat_le v.level d) ≡ false
   wrong_owner d v other = and_left (v.owner == owner) (nat_le v.level d) (ne_eqb v.owner owner other)

@@ -70,9 +70,9 @@ covers_told x = if x.level == 0 then [] else covers_of x.extents.leaves x.extent
 pub record HasTree (g : Sizes) (fast : Blocks) (at : TreePlace) (x : TierTree) : Type 0 where
   pub tree : Tree
   pub is : tree_below g fast at ≡ Some tree
-  pub read : IsTreeRead tree x
+  pub held : IsTreeRead tree x
   pub covers : listed_leaves (extents_of g at.space (fast at.root)) ≡ covers_told x
-  pub map : IsMap x.extents.runs
+  pub spells : IsMap x.extents.runs
   pub each : list_all (is_extent g at.space) x.extents.runs ≡ true
 
 -- One of these entries covers no leaf: the block that it names is none.
