@@ -22,7 +22,7 @@ use Rattle.tier_device.specs.declared.media.Tier.{Tier}
 use Rattle.area_reader.specs.Store.{root_of, deepest, listed_leaves}
 use Rattle.area_reader.specs.Map.{tree_below, leaf_below, lowest_nodes, covers_told, AreCovered, AreBelow, AddsLeaf, IsBadCover, HasTree, HasExtents, ShowsNoTree, root_in}
 use Rattle.area_reader.specs.declared.error.AreaError.{AreaError}
-use Rattle.area_reader.specs.declared.trees.TierTree.{TierTree}
+use Rattle.extent_tree.specs.declared.tier_tree.TierTree.{TierTree}
 use Rattle.area_reader.specs.declared.trees.TreePlace.{TreePlace}
 use Rattle.area_reader.proofs.Lists.{extents_fit}
 use Rattle.area_reader.proofs.Shown.{extents_none, extents_some, covers_none, covers_some}

@@ -15,7 +15,7 @@ use Rattle.area_reader.specs.Map.{place_by, leaf_by, in_tier, extents_in, covers
 use Rattle.area_reader.specs.BlockMarks.{UsedMarks, is_marked, HasRoom, Adds, TakesBlocks, Clashes}
 use Rattle.area_reader.specs.Parts.{InodeUse, part_block, part_for, IsRoot, IsLeaf, IsOfTree, IsPlace, IsOfTier, IsWithin, HasRoomFor}
 use Rattle.area_reader.specs.declared.inode.InodeParts.{InodeParts}
-use Rattle.area_reader.specs.declared.trees.TierTree.{TierTree}
+use Rattle.extent_tree.specs.declared.tier_tree.TierTree.{TierTree}
 use Rattle.area_reader.proofs.Trees.{begun_at}
 use Rattle.area_reader.proofs.Takings.{take_one, take_none, take_more, take_same, clash_one, clash_after, clash_more}
 

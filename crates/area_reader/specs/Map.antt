@@ -17,7 +17,7 @@ use Rattle.batch_journal.specs.Blocks.{Blocks}
 use Rattle.batch_journal.specs.layout.Places.{Sizes, slot_block}
 use Rattle.area_reader.specs.Store.{Store, root_of, space_of, length_of, slot, deepest, extents_by, covers_by, listed_leaves, place_begun, slot_read}
 use Rattle.area_reader.specs.declared.tiers.InodeExtents.{InodeExtents}
-use Rattle.area_reader.specs.declared.trees.TierTree.{TierTree}
+use Rattle.extent_tree.specs.declared.tier_tree.TierTree.{TierTree}
 use Rattle.area_reader.specs.declared.trees.TreePlace.{TreePlace}
 
 -- ---- one tree

@@ -9,8 +9,8 @@ use crate::inode::InodeParts;
 use crate::places::place_in;
 use crate::slots::{length_of, root_of};
 use crate::tiers::InodeExtents;
-use crate::trees::TierTree;
 use crate::used_blocks::UsedBlocks;
+use extent_tree::TierTree;
 use tier_device::Tier;
 
 // The tree of a tier.

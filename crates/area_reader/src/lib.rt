@@ -44,7 +44,7 @@ pub use places::first_place;
 pub use slots::{length_of, read_slot, root_of, space_of};
 pub use tail::block_number;
 pub use tiers::{InodeExtents, read_all_extents};
-pub use trees::{TierTree, read_tree};
+pub use trees::read_tree;
 pub use units::{slots_give_the_units, units_of};
 pub use used_blocks::{UsedBlocks, unmarked_blocks_are_free};
 
@@ -56,7 +56,8 @@ pub mod in_batch_journal {
 /// Of `extent_tree`, what the crates above name.
 pub mod in_extent_tree {
     pub use extent_tree::{
-        BlockMap, Place, block_spells_a_map, few_blocks_are_few_runs, push, whole_map_fits_a_block,
+        BlockMap, Place, TierTree, block_spells_a_map, few_blocks_are_few_runs, push,
+        whole_map_fits_a_block,
     };
 }
 

@@ -5,9 +5,8 @@ ghost use Rattle.extent_tree.specs.Places.{place_of};
 ghost use Rattle.area_reader.specs.Map.{extents_in, place_by, IsOnceAt, IsTwiceAt};
 
 use crate::tiers::InodeExtents;
-use crate::trees::TierTree;
 use batch_journal::in_layout::MAX_EXTENTS;
-use extent_tree::Extents;
+use extent_tree::{Extents, TierTree};
 use tier_device::Tier;
 
 /// The place of a logical block in a tier, found by bisection.

@@ -9,9 +9,10 @@ ghost use Rattle.area_reader.specs.Map.{HasExtents, HasAllExtents, HasNoExtents,
 ghost use Rattle.area_reader.specs.declared.error.AreaError.TheVariants.{Memory};
 
 use crate::error::AreaError;
-use crate::trees::{TierTree, read_tree};
+use crate::trees::read_tree;
 use batch_journal::Journal;
 use batch_journal::in_layout::Slot;
+use extent_tree::TierTree;
 use std::alloc::Global;
 use tier_device::{Media, Tier};
 

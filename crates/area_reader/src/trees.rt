@@ -1,9 +1,8 @@
 // Trees of extents as they are read.
 ghost use Rattle.std.specs.Prelude.{◌≡◌, ◌≢◌, ◌≤◌, ◌++◌, ◌∷◌, [], length, Some, None, IsSome, nat_le, true, false, unwrap_or, option_map, OnOk, IfOk, IfErr};
-ghost use Rattle.std.specs.List.{list_all, Contains};
+ghost use Rattle.std.specs.List.{list_all};
 ghost use Rattle.tier_device.specs.declared.media.Tier.TheVariants as tiers;
 ghost use Rattle.batch_journal.specs.layout.declared.error.What.TheVariants as what;
-ghost use Rattle.batch_journal.specs.layout.declared.extents.Extent.{Extent};
 ghost use Rattle.batch_journal.specs.layout.declared.extents.TheConstants.{MAX_EXTENTS};
 ghost use Rattle.batch_journal.specs.layout.declared.superblock.TheConstants.{LAST_VERSION};
 ghost use Rattle.batch_journal.specs.layout.Places.{is_node};
@@ -29,17 +28,9 @@ use batch_journal::in_layout::{
     Extent, ExtentBlock, FIRST_VERSION, Geometry, LAST_VERSION, LEAST_EXTENTS, LayoutError,
     MAX_EXTENTS, SUPER_BLOCK, Slot, Space, Super, What,
 };
-use extent_tree::{Extents, Node, block_spells_a_map, summary_of};
+use extent_tree::{Extents, Node, TierTree, block_spells_a_map, summary_of};
 use std::alloc::{AllocError, Global};
 use tier_device::{Media, Tier};
-
-/// What lists an inode's extents in a tier: the level of its root, and the extents. Where the root stands above leaves, each leaf is in its block; at level 0 the root
-/// itself is the one leaf, and has no block besides.
-#[derive(Drop)]
-pub struct TierTree {
-    pub level: u32,
-    pub extents: Extents<MAX_EXTENTS>,
-}
 
 /// Where a tree begins, and whose it is to be: an inode's of so many logical blocks.
 #[derive(Clone, Copy)]
@@ -261,9 +252,10 @@ fn lowest_leaf(alloc: Global, extents: &[Extent]) -> Result<ReadLeaves, AreaErro
     ensures only { IfErr result (λ e. e ≡ Memory) }
 {
     let mut leaves = ReadLeaves::new(alloc);
-    if !extents.is_empty() {
-        push_leaf(alloc, &mut leaves, extents, 0)?;
+    if extents.is_empty() {
+        return Ok(leaves);
     }
+    push_leaf(alloc, &mut leaves, extents, 0)?;
     Ok(leaves)
 }
 

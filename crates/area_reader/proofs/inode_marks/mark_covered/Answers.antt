@@ -6,7 +6,7 @@ use Rattle.extent_tree.specs.Value.{covers_of}
 use Rattle.extent_tree.proofs.Homes.{covers_long, covers_place}
 use Rattle.area_reader.specs.BlockMarks.{HasRoom, Adds, is_marked}
 use Rattle.area_reader.specs.Map.{covers_in, covers_told}
-use Rattle.area_reader.specs.declared.trees.TierTree.{TierTree}
+use Rattle.extent_tree.specs.declared.tier_tree.TierTree.{TierTree}
 use Rattle.tier_device.specs.declared.media.Tier.TheVariants.{Fast}
 use Rattle.area_reader.proofs.Uses.{no_cover, no_leaf, leaf_room, leaves_none, leaves_more, leaves_clash, leaves_all}
 use Rattle.area_reader.proofs.inode_marks.mark_covered.Goals as goal
