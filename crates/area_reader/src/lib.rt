@@ -56,8 +56,7 @@ pub mod in_batch_journal {
 /// Of `extent_tree`, what the crates above name.
 pub mod in_extent_tree {
     pub use extent_tree::{
-        BlockMap, Place, TierTree, block_spells_a_map, few_blocks_are_few_runs, push,
-        whole_map_fits_a_block,
+        BlockMap, Place, block_spells_a_map, few_blocks_are_few_runs, push, whole_map_fits_a_block,
     };
 }
 
