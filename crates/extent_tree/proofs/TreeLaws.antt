@@ -1,16 +1,14 @@
 -- What a root and its leaves come to.
-use Rattle.std.proofs.Common.{◌≡◌, ◌≤◌, ℕ, true, cond, eqb, ◌&&◌, List, [], ◌∷◌, Option, Some, None, refl, sym, ap, subst, ◌∙◌, arith}
+use Rattle.std.proofs.Common.{◌≡◌, ◌≤◌, ℕ, true, ◌&&◌, List, Some, refl, subst}
 use Rattle.std.specs.Prelude.{nat_le, ◌==◌}
 use Rattle.std.specs.List.{list_all}
-use Rattle.std.proofs.lemmas.Bool.{and_parts, eqb-true, eq-eqb, leb-true}
-use Rattle.std.proofs.lemmas.List.{append-nil}
-use Rattle.layout.specs.declared.extents.Extent.{Extent}
+use Rattle.std.proofs.lemmas.Bool.{and_parts, eqb-true, leb-true}
 use Rattle.layout.specs.declared.geometry.Space.{Space}
 use Rattle.layout.specs.Extents.{ExtentList, extents_of}
 use Rattle.layout.specs.Places.{Sizes}
-use Rattle.layout.proofs.file_graph_lemmas.Fields.{bind_some, test_some, guard_some, some_is}
+use Rattle.layout.proofs.file_graph_lemmas.Fields.{bind_some, test_some}
 use Rattle.extent_tree.specs.Places.{end_of}
-use Rattle.extent_tree.specs.Trees.{Leaf, Tree, runs_of, leaves_at, leaves_below, is_tree, tree_in}
+use Rattle.extent_tree.specs.Trees.{Tree, runs_of, leaves_below, is_tree, tree_in}
 
 -- the root and the leaves that make a tree
 pub record TreeParts (g : Sizes) (p : Space) (owner deepest end : ℕ) (blocks : ℕ → List ℕ) (root : ℕ) (tree : Tree) : Type 0 where
@@ -32,14 +30,3 @@ tree_parts g p owner deepest end blocks root tree e =
     let a = and_parts ((v.0.owner == owner) && nat_le v.0.level deepest) (list_all (λ x. nat_le (end_of x) end) (runs_of made)) t.0 in
     let b = and_parts (v.0.owner == owner) (nat_le v.0.level deepest) a.0 in
     subst (TreeParts g p owner deepest end blocks root) t.1 (record { list = v.0; spelled = v.1; below = l.1; level = refl; owned = eqb-true v.0.owner owner b.0; depth = leb-true v.0.level deepest b.1; ends = a.1 })
-
--- the one leaf of a tree of level 0 has what its root lists
-pub lowest_spelled : (g : Sizes) (p : Space) (owner deepest end : ℕ) (blocks : ℕ → List ℕ) (root : ℕ) (tree : Tree) → TreeParts g p owner deepest end blocks root tree → tree.level ≡ 0 → extents_of g p (blocks root) ≡ Some (record { owner = owner; level = 0; extents = runs_of tree })
-lowest_spelled g p owner deepest end blocks root tree parts lowest =
-    let v : ExtentList = parts.list in
-    let level : v.level ≡ 0 = parts.level ∙ lowest in
-    let one : List Leaf = record { block = root; entries = v.extents } ∷ [] in
-    let chosen : leaves_below g p owner blocks root v ≡ Some one = ap (λ t. cond t (Some one) (leaves_at g p owner blocks v.extents)) (eq-eqb v.level 0 level) in
-    let same : one ≡ tree.leaves = some_is one tree.leaves (sym chosen ∙ parts.below) in
-    let runs : v.extents ≡ runs_of tree = sym (append-nil v.extents) ∙ ap (λ ls. runs_of (record { level = tree.level; leaves = ls })) same in
-    parts.spelled ∙ (λ i. Some (record { owner = parts.owned i; level = level i; extents = runs i }))

@@ -19,7 +19,6 @@ mod node_pack;
 mod node_search;
 mod tier_tree;
 mod tree;
-mod tree_laws;
 mod upper_levels;
 
 pub use byte_search::{find_extent, level_of};
@@ -36,4 +35,3 @@ pub use node_pack::{pack, push_entries, push_summaries};
 pub use node_search::{nodes_before, nodes_up_to};
 pub use tier_tree::TierTree;
 pub use tree::{Counted, Extents};
-pub use tree_laws::lowest_tree_is_one_block;
