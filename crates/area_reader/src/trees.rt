@@ -1,5 +1,5 @@
 // Trees of extents as they are read.
-ghost use Rattle.std.specs.Prelude.{◌≡◌, ◌≢◌, ◌≤◌, ◌++◌, ◌∷◌, [], length, Some, None, IsSome, nat_le, true, false, unwrap_or, option_map, OnOk, IfOk, IfErr};
+ghost use Rattle.std.specs.Prelude.{◌≡◌, ◌≢◌, ◌≤◌, ◌<◌, ◌++◌, ◌∷◌, [], length, Some, None, IsSome, nat_le, true, false, unwrap_or, option_map, OnOk, IfOk, IfErr};
 ghost use Rattle.std.specs.List.{list_all};
 ghost use Rattle.tier_device.specs.declared.media.Tier.TheVariants as tiers;
 ghost use Rattle.batch_journal.specs.layout.declared.error.What.TheVariants as what;
@@ -8,11 +8,11 @@ ghost use Rattle.batch_journal.specs.layout.declared.superblock.TheConstants.{LA
 ghost use Rattle.batch_journal.specs.layout.Places.{is_node};
 ghost use Rattle.batch_journal.specs.layout.Super.{super_of};
 ghost use Rattle.batch_journal.specs.layout.Extents.{extents_of, is_cover};
-ghost use Rattle.extent_tree.specs.Nodes.{flat};
+ghost use Rattle.extent_tree.specs.Nodes.{flat, summary};
 ghost use Rattle.extent_tree.specs.Normal.{IsRising, IsMap};
 ghost use Rattle.extent_tree.specs.Places.{end_of};
 ghost use Rattle.extent_tree.specs.Tree.{IsLevel};
-ghost use Rattle.extent_tree.specs.Trees.{is_leaf};
+ghost use Rattle.extent_tree.specs.Trees.{is_leaf, is_same};
 ghost use Rattle.extent_tree.specs.Value.{leaf_blocks};
 ghost use Rattle.area_reader.specs.Store.{disk, deepest, deepest_in, root_of};
 ghost use Rattle.area_reader.specs.Looks.{Looks};
@@ -338,14 +338,20 @@ fn is_leaf(list: &ExtentBlock, inode: u32, cover: Extent) -> bool
     ensures { result ≡ is_leaf inode cover list.now }
 {
     let extents = list.extents();
-    if extents.len() < LEAST_EXTENTS {
-        return false;
-    }
-    let whole = summary_of(extents, cover.place);
     list.owner() == inode
         && list.level() == 0
-        && cover.logical == whole.logical
-        && cover.length == whole.length
+        && LEAST_EXTENTS <= extents.len()
+        && is_covered(extents, cover)
+}
+
+// Whether an entry begins and ends as these extents do.
+fn is_covered(extents: &[Extent], cover: Extent) -> bool
+    requires some { 0 < length extents.now }
+    requires rising { IsRising 0 4294967295 extents.now }
+    ensures { result ≡ is_same cover (summary cover.place extents.now) }
+{
+    let whole = summary_of(extents, cover.place);
+    cover.logical == whole.logical && cover.length == whole.length && cover.place == whole.place
 }
 
 // The tree of a root of that level with these leaves, if its runs end within the inode's blocks.
