@@ -80,7 +80,8 @@ module _ (g : Sizes) (fast : Blocks) (at : TreePlace) (b : ℕ) (v : ExtentList)
       by (Some tree) is =
           let parts = tree_parts g at.space at.inode (deepest fast) at.blocks fast at.root tree is in
           let same : parts.list ≡ v = some_is parts.list v (sym parts.spelled ∙ read) in
-          let leaves = some_is (record { block = at.root; entries = v.extents } ∷ []) tree.leaves (sym (lowest_below g at.space at.inode fast at.root v lowest) ∙ ap (leaves_below g at.space at.inode fast at.root) (sym same) ∙ parts.below) in
+          let one : List Leaf = record { block = at.root; entries = v.extents } ∷ [] in
+          let leaves = some_is one tree.leaves (sym (lowest_below g at.space at.inode fast at.root v lowest) ∙ ap (leaves_below g at.space at.inode fast at.root) (sym same) ∙ parts.below) in
           ap (λ (ls : List Leaf). extent_with b (flat (listed ls))) (sym leaves) ∙ ap (extent_with b) (append-nil v.extents)
 
   pub found_above : v.level ≢ 0 → IfSome (tree_below g fast at) (λ tree. extent_with b (runs_of tree) ≡ (extent_with b v.extents >>= λ c. leaf_below g fast at c >>= λ l. extent_with b l.entries))

@@ -268,7 +268,8 @@ tree_runs g p owner d end blocks root tree e =
     let list = list-parts g p v (extents_fit g p (blocks root) v parts.spelled) in
     elim (cases_eq v.level 0) [
       | inl lowest ↦
-          let same = some_is (record { block = root; entries = v.extents } ∷ []) tree.leaves (sym (lowest_below g p owner blocks root v lowest) ∙ parts.below) in
+          let one : List Leaf = record { block = root; entries = v.extents } ∷ [] in
+          let same = some_is one tree.leaves (sym (lowest_below g p owner blocks root v lowest) ∙ parts.below) in
           let runs : v.extents ≡ runs_of tree = sym (append-nil v.extents) ∙ ap (λ (ls : List Leaf). flat (listed ls)) same in
           record {
             rising = subst (IsRising 0 (blocks_in p)) runs (sorted-rising g p v.level 0 v.extents list.sorted list.each);
