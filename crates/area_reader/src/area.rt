@@ -27,7 +27,7 @@ use posix_calls::MAX_INODE;
 use std::alloc::Global;
 use tier_device::Media;
 
-// Reads one more inode, and marks its blocks behind those of the inodes before it. `Damaged` names what the inode itself shows to be wrong, or the extent block in
+// Reads one more inode, and marks its blocks behind those of the inodes before it. `Damaged` names what the inode itself shows to be wrong, or the root in
 // a tier where a block has another use.
 fn add_inode<M: Media>(
     alloc: Global,
@@ -57,9 +57,9 @@ fn add_inode<M: Media>(
 }
 
 /// The units of the graph, where all inodes are sound and no block has two uses; marked is then what is in use, where no block was marked before. All slots,
-/// extent blocks and blocks of directories are read, and of a file's data the last block at most; how often is a matter of cost alone. `Damaged` names the first
-/// that is wrong by itself, or the extent block of the first inode and tier that has a block which another use has too; the marks are then of no use. `Memory`
-/// where there was none for an extent block or a block of a directory.
+/// blocks of extents and of directories are read, and of a file's data the last block at most; how often is a matter of cost alone. `Damaged` names the first
+/// that is wrong by itself, or the root of the first inode and tier that has a block which another use has too; the marks are then of no use. `Memory`
+/// where there was none for a block of extents or of a directory.
 pub fn read_area<M: Media>(
     alloc: Global,
     journal: &mut Journal<M>,

@@ -18,15 +18,15 @@ use posix_calls::MAX_INODE;
 use std::alloc::Global;
 use tier_device::Media;
 
-/// The slot of an inode, and its extent blocks.
+/// The slot of an inode, and the trees of its extents.
 #[derive(Drop)]
 pub struct InodeParts {
     pub slot: Slot,
     pub extents: InodeExtents,
 }
 
-/// Reads the slot and the extents of an inode. `Damaged` names the slot or an extent block, where it is none; that takes no memory. `Memory` where
-/// there was none for what an extent block spells.
+/// Reads the slot and the extents of an inode. `Damaged` names the slot, where it is none, or a root or a leaf, where it makes no tree. `Memory` where there was none for
+/// what a root or a leaf lists.
 pub fn read_parts<M: Media>(
     alloc: Global,
     journal: &mut Journal<M>,

@@ -20,7 +20,7 @@ use batch_journal::in_layout::{
 use posix_calls::MAX_INODE;
 use tier_device::{Media, Tier};
 
-/// The extent block of a tier, 0 for none.
+/// The root of the extents in a tier, 0 for none.
 pub fn root_of(slot: &Slot, tier: Tier) -> u32
     ensures { result ≡ root_of slot.now tier }
 {
