@@ -11,7 +11,7 @@ use Rattle.world_invariant.proofs.Records.{either}
 use Rattle.world_history.specs.declared.moves.Move.{Move}
 use Rattle.world_history.specs.declared.moves.Move.TheVariants as moves
 use Rattle.world_history.specs.Configuration.{KernelPart, Configuration, AwayRegion, away_by, away_in, mark_of, world_of}
-use Rattle.world_history.specs.Moves.{client_of, restarts, book_numbers, unbook_numbers, replied, gave_up, client_moved, kernel_moved, after_move}
+use Rattle.world_history.specs.Moves.{client_of, restarts, book_numbers, unbook_numbers, replied, client_moved, kernel_moved, after_move}
 use Rattle.world_history.specs.Conditions.{MayFollow}
 use Rattle.world_history.specs.History.{after_moves, IsHistory}
 use Rattle.world_history.specs.Participants.{is_regions, OfRegion, takes_part, projection}
@@ -55,7 +55,6 @@ marks_stay (moves.Answered c call new operation) k d r e = refl
 marks_stay (moves.Refused c call errno) k d r e = refl
 marks_stay (moves.Began c b) k d r e = refl
 marks_stay (moves.Replied c) k d r e = refl
-marks_stay (moves.GaveUp c) k d r e = refl
 marks_stay (moves.Lost c) k d r e = refl
 marks_stay (moves.Failed c) k d r e = refl
 marks_stay (moves.Died c) k d r e = refl
@@ -85,10 +84,6 @@ replied_stays : (o : Option Begun) (p : Client) (mark : ℕ) → away_of (replie
 replied_stays None p mark = refl
 replied_stays (Some b) p mark = refl
 
-gave_up_stays : (o : Option Begun) (p : Client) (mark : ℕ) → away_of (gave_up o p) mark ≡ away_of p mark
-gave_up_stays None p mark = refl
-gave_up_stays (Some b) p mark = refl
-
 own_stays : (s : Configuration) (m : Move) → is_regions m ≡ false → restarts m ≡ false → MayFollow s m → away_of (client_moved (client_of m) m (s.clients (client_of m))) (mark_of s.kernel (client_of m)) ≡ away_of (s.clients (client_of m)) (mark_of s.kernel (client_of m))
 own_stays s (moves.TookRead d i) r e may = refl
 own_stays s (moves.TookWrite d i) r e may = refl
@@ -103,7 +98,6 @@ own_stays s (moves.Answered d call new operation) r e may = refl
 own_stays s (moves.Refused d call errno) r e may = refl
 own_stays s (moves.Began d b) r e may = refl
 own_stays s (moves.Replied d) r e may = replied_stays (s.clients d).begun (s.clients d) (mark_of s.kernel d)
-own_stays s (moves.GaveUp d) r e may = gave_up_stays (s.clients d).begun (s.clients d) (mark_of s.kernel d)
 own_stays s (moves.Lost d) r e may = refl
 own_stays s (moves.Failed d) r e may = refl
 own_stays s (moves.Died d) r e may = refl
@@ -150,7 +144,6 @@ region_moves s (moves.Answered d call new operation) is h is_c may = absurd (tru
 region_moves s (moves.Refused d call errno) is h is_c may = absurd (true≢false (sym is))
 region_moves s (moves.Began d b) is h is_c may = absurd (true≢false (sym is))
 region_moves s (moves.Replied d) is h is_c may = absurd (true≢false (sym is))
-region_moves s (moves.GaveUp d) is h is_c may = absurd (true≢false (sym is))
 region_moves s (moves.Lost d) is h is_c may = absurd (true≢false (sym is))
 region_moves s (moves.Failed d) is h is_c may = absurd (true≢false (sym is))
 region_moves s (moves.Died d) is h is_c may = absurd (true≢false (sym is))
@@ -185,7 +178,6 @@ restart_moves s c (moves.Answered d call new operation) e = absurd (true≢false
 restart_moves s c (moves.Refused d call errno) e = absurd (true≢false (sym e))
 restart_moves s c (moves.Began d b) e = absurd (true≢false (sym e))
 restart_moves s c (moves.Replied d) e = absurd (true≢false (sym e))
-restart_moves s c (moves.GaveUp d) e = absurd (true≢false (sym e))
 restart_moves s c (moves.Lost d) e = absurd (true≢false (sym e))
 restart_moves s c (moves.Failed d) e = absurd (true≢false (sym e))
 restart_moves s c (moves.Died d) e = absurd (true≢false (sym e))

@@ -16,7 +16,7 @@ use Rattle.world_invariant.proofs.Moved.{at_same}
 use Rattle.world_history.specs.declared.moves.Move.{Move}
 use Rattle.world_history.specs.declared.moves.Move.TheVariants as moves
 use Rattle.world_history.specs.Configuration.{KernelPart, Configuration, CanDigestOf, IsConsistent, away_by, away_in, mark_of, world_of}
-use Rattle.world_history.specs.Moves.{client_of, restarts, book_numbers, unbook_numbers, replied, gave_up, client_moved, kernel_moved, clients_moved, after_move}
+use Rattle.world_history.specs.Moves.{client_of, restarts, book_numbers, unbook_numbers, replied, client_moved, kernel_moved, clients_moved, after_move}
 use Rattle.world_history.specs.Conditions.{MayFollow}
 use Rattle.world_history.specs.History.{after_moves, IsHistory}
 use Rattle.world_history.specs.Participants.{is_regions, OfRegion, takes_part}
@@ -39,10 +39,6 @@ replied_accepted : (s : Configuration) → AreAccepted s.kernel.machine.accepted
 replied_accepted s are d None = still s.kernel.machine.accepted (world_of s) d are (s.clients d) refl refl refl
 replied_accepted s are d (Some b) = still s.kernel.machine.accepted (world_of s) d are (replied (Some b) (s.clients d)) refl refl refl
 
-gave_up_accepted : (s : Configuration) → AreAccepted s.kernel.machine.accepted s.clients → (d : ℕ) (o : Option Begun) → AreAccepted s.kernel.machine.accepted (at s.clients d (gave_up o (s.clients d)))
-gave_up_accepted s are d None = still s.kernel.machine.accepted (world_of s) d are (s.clients d) refl refl refl
-gave_up_accepted s are d (Some b) = still s.kernel.machine.accepted (world_of s) d are (gave_up (Some b) (s.clients d)) refl refl refl
-
 accepted_goes : (s : Configuration) (m : Move) → IsConsistent s → MayFollow s m → AreAccepted (kernel_moved m s.kernel).machine.accepted (clients_moved m s.clients)
 accepted_goes s (moves.TookRead d i) con may = still s.kernel.machine.accepted (world_of s) d con.accepted (client_moved d (moves.TookRead d i) (s.clients d)) refl refl refl
 accepted_goes s (moves.TookWrite d i) con may = still s.kernel.machine.accepted (world_of s) d con.accepted (client_moved d (moves.TookWrite d i) (s.clients d)) refl refl refl
@@ -57,7 +53,6 @@ accepted_goes s (moves.Answered d call new operation) con may = still s.kernel.m
 accepted_goes s (moves.Refused d call errno) con may = still s.kernel.machine.accepted (world_of s) d con.accepted (s.clients d) refl refl refl
 accepted_goes s (moves.Began d b) con may = still s.kernel.machine.accepted (world_of s) d con.accepted (client_moved d (moves.Began d b) (s.clients d)) refl refl refl
 accepted_goes s (moves.Replied d) con may = replied_accepted s con.accepted d (s.clients d).begun
-accepted_goes s (moves.GaveUp d) con may = gave_up_accepted s con.accepted d (s.clients d).begun
 accepted_goes s (moves.Lost d) con may = still s.kernel.machine.accepted (world_of s) d con.accepted (client_moved d (moves.Lost d) (s.clients d)) refl refl refl
 accepted_goes s (moves.Failed d) con may = still s.kernel.machine.accepted (world_of s) d con.accepted (client_moved d (moves.Failed d) (s.clients d)) refl refl refl
 accepted_goes s (moves.Died d) con may = still s.kernel.machine.accepted (world_of s) d con.accepted (client_moved d (moves.Died d) (s.clients d)) refl refl refl
@@ -90,7 +85,6 @@ marks_go s (moves.Answered d call new operation) con may c is = con.marks c is
 marks_go s (moves.Refused d call errno) con may c is = con.marks c is
 marks_go s (moves.Began d b) con may c is = con.marks c is
 marks_go s (moves.Replied d) con may c is = con.marks c is
-marks_go s (moves.GaveUp d) con may c is = con.marks c is
 marks_go s (moves.Lost d) con may c is = con.marks c is
 marks_go s (moves.Failed d) con may c is = con.marks c is
 marks_go s (moves.Died d) con may c is = con.marks c is
@@ -189,7 +183,6 @@ failed_stays (moves.Answered d call new operation) k r one = refl
 failed_stays (moves.Refused d call errno) k r one = refl
 failed_stays (moves.Began d b) k r one = refl
 failed_stays (moves.Replied d) k r one = refl
-failed_stays (moves.GaveUp d) k r one = refl
 failed_stays (moves.Lost d) k r one = refl
 failed_stays (moves.Failed d) k r one = refl
 failed_stays (moves.Died d) k r one = refl
@@ -222,7 +215,6 @@ accepted_stays (moves.Answered d call new operation) k r one = refl
 accepted_stays (moves.Refused d call errno) k r one = refl
 accepted_stays (moves.Began d b) k r one = refl
 accepted_stays (moves.Replied d) k r one = refl
-accepted_stays (moves.GaveUp d) k r one = refl
 accepted_stays (moves.Lost d) k r one = refl
 accepted_stays (moves.Failed d) k r one = refl
 accepted_stays (moves.Died d) k r one = refl
@@ -277,7 +269,6 @@ failed_goes s (moves.Answered d call new operation) con may x e = plain_goes s (
 failed_goes s (moves.Refused d call errno) con may x e = plain_goes s (moves.Refused d call errno) con may x e refl refl
 failed_goes s (moves.Began d b) con may x e = plain_goes s (moves.Began d b) con may x e refl refl
 failed_goes s (moves.Replied d) con may x e = plain_goes s (moves.Replied d) con may x e refl refl
-failed_goes s (moves.GaveUp d) con may x e = plain_goes s (moves.GaveUp d) con may x e refl refl
 failed_goes s (moves.Lost d) con may x e = plain_goes s (moves.Lost d) con may x e refl refl
 failed_goes s (moves.Failed d) con may x e = plain_goes s (moves.Failed d) con may x e refl refl
 failed_goes s (moves.Died d) con may x e = plain_goes s (moves.Died d) con may x e refl refl

@@ -8,7 +8,7 @@ use Rattle.world_history.specs.declared.moves.Move.{Move}
 use Rattle.world_history.specs.declared.moves.Move.TheVariants as moves
 use Rattle.world_history.specs.Moves.{client_of}
 use Rattle.world_history.specs.Participants.{OfClient, OfKernel, OfRegion, is_kernels, projection, takes_part}
-use Rattle.world_history.specs.Parts.{entries_of, is_entry_of}
+use Rattle.world_history.specs.Parts.{entries_of, is_entry, is_entry_of}
 use Rattle.world_history.proofs.Parts.{projected, unprojected}
 
 -- ---- one move
@@ -19,8 +19,8 @@ own c d e = elim (eqb_tells c d) [ inl same ↦ same.1 | inr off ↦ absurd (tru
 nobody : (c : ℕ) → is_client c ≡ true → c ≡ 0 → ⊥
 nobody c is zero = let clash : false ≡ true = ap is_client (sym zero) ∙ is in cc
 
-no_kernels : (c d : ℕ) → (false && c == d) ≡ true → ⊥
-no_kernels c d e = true≢false (sym e)
+no_entries : (c d : ℕ) → (false && c == d) ≡ true → ⊥
+no_entries c d e = true≢false (sym e)
 
 abbrev IsOfOne : ℕ → Move → Type 0
 IsOfOne c m = ((takes_part (OfClient c) m ≡ true) × (takes_part (OfRegion c) m ≡ false)) ⊎ ((takes_part (OfClient c) m ≡ false) × (takes_part (OfRegion c) m ≡ true))
@@ -33,37 +33,69 @@ of_region c d e = (ap (λ b. ((b && false) || false) || false) e, ap (λ b. (b &
 
 -- an entry of a client is a move of it, or of its region, and not of both
 is_of_one : (c : ℕ) (m : Move) → is_client c ≡ true → is_entry_of c m ≡ true → IsOfOne c m
-is_of_one c (moves.TookRead d i) is e = absurd (no_kernels c d e)
-is_of_one c (moves.TookWrite d i) is e = absurd (no_kernels c d e)
-is_of_one c (moves.Gave d i) is e = absurd (no_kernels c d e)
-is_of_one c (moves.Fetched d i copy) is e = inl (of_client c d e)
-is_of_one c (moves.FetchedBlocks d i first count bytes) is e = inl (of_client c d e)
+is_of_one c (moves.TookRead d i) is e = absurd (no_entries c d e)
+is_of_one c (moves.TookWrite d i) is e = absurd (no_entries c d e)
+is_of_one c (moves.Gave d i) is e = absurd (no_entries c d e)
+is_of_one c (moves.Fetched d i copy) is e = absurd (no_entries c d e)
+is_of_one c (moves.FetchedBlocks d i first count bytes) is e = absurd (no_entries c d e)
 is_of_one c (moves.Granted d units numbers) is e = inl (of_client c d e)
 is_of_one c (moves.Returned d units numbers) is e = inl (of_client c d e)
 is_of_one c (moves.Pinned d i) is e = inl (of_client c d e)
 is_of_one c (moves.Unpinned d i) is e = inl (of_client c d e)
-is_of_one c (moves.Answered d call new operation) is e = absurd (no_kernels c d e)
-is_of_one c (moves.Refused d call errno) is e = absurd (no_kernels c d e)
-is_of_one c (moves.Began d b) is e = absurd (no_kernels c d e)
-is_of_one c (moves.Replied d) is e = absurd (no_kernels c d e)
-is_of_one c (moves.GaveUp d) is e = absurd (no_kernels c d e)
-is_of_one c (moves.Lost d) is e = absurd (no_kernels c d e)
-is_of_one c (moves.Failed d) is e = absurd (no_kernels c d e)
-is_of_one c (moves.Died d) is e = absurd (no_kernels c d e)
-is_of_one c (moves.Departed d) is e = absurd (no_kernels c d e)
+is_of_one c (moves.Answered d call new operation) is e = absurd (no_entries c d e)
+is_of_one c (moves.Refused d call errno) is e = absurd (no_entries c d e)
+is_of_one c (moves.Began d b) is e = absurd (no_entries c d e)
+is_of_one c (moves.Replied d) is e = absurd (no_entries c d e)
+is_of_one c (moves.Lost d) is e = absurd (no_entries c d e)
+is_of_one c (moves.Failed d) is e = absurd (no_entries c d e)
+is_of_one c (moves.Died d) is e = absurd (no_entries c d e)
+is_of_one c (moves.Departed d) is e = absurd (no_entries c d e)
 is_of_one c (moves.Buried d mark) is e = inl (of_client c d e)
-is_of_one c (moves.Joined d mark) is e = absurd (no_kernels c d e)
-is_of_one c (moves.Sealed d past records) is e = absurd (no_kernels c d e)
-is_of_one c (moves.TookBack d) is e = absurd (no_kernels c d e)
-is_of_one c (moves.WipedOther d) is e = absurd (no_kernels c d e)
-is_of_one c (moves.WipedCurrent d) is e = absurd (no_kernels c d e)
+is_of_one c (moves.Joined d mark) is e = absurd (no_entries c d e)
+is_of_one c (moves.Sealed d past records) is e = absurd (no_entries c d e)
+is_of_one c (moves.TookBack d) is e = absurd (no_entries c d e)
+is_of_one c (moves.WipedOther d) is e = absurd (no_entries c d e)
+is_of_one c (moves.WipedCurrent d) is e = absurd (no_entries c d e)
 is_of_one c (moves.Accepted d total) is e = inr (of_region c d e)
 is_of_one c (moves.Digested d records) is e = inr (of_region c d e)
-is_of_one c (moves.DigestFailed d records) is e = inr (of_region c d e)
+is_of_one c (moves.DigestFailed d records) is e = absurd (no_entries c d e)
 is_of_one c (moves.Reclaimed i) is e = absurd (nobody c is (own c 0 e))
-is_of_one c (moves.Met clients seen) is e = absurd (no_kernels c 0 e)
-is_of_one c (moves.Shared o) is e = absurd (nobody c is (own c 0 e))
-is_of_one c moves.Rejoined is e = absurd (nobody c is (own c 0 e))
+is_of_one c (moves.Met clients seen) is e = absurd (no_entries c 0 e)
+is_of_one c (moves.Shared o) is e = absurd (no_entries c 0 e)
+is_of_one c moves.Rejoined is e = absurd (no_entries c 0 e)
+
+-- an entry is the kernel's
+entry_is_kernels : (m : Move) → is_entry m ≡ true → is_kernels m ≡ true
+entry_is_kernels (moves.TookRead d i) e = absurd (true≢false (sym e))
+entry_is_kernels (moves.TookWrite d i) e = absurd (true≢false (sym e))
+entry_is_kernels (moves.Gave d i) e = absurd (true≢false (sym e))
+entry_is_kernels (moves.Fetched d i copy) e = absurd (true≢false (sym e))
+entry_is_kernels (moves.FetchedBlocks d i first count bytes) e = absurd (true≢false (sym e))
+entry_is_kernels (moves.Granted d units numbers) e = refl
+entry_is_kernels (moves.Returned d units numbers) e = refl
+entry_is_kernels (moves.Pinned d i) e = refl
+entry_is_kernels (moves.Unpinned d i) e = refl
+entry_is_kernels (moves.Answered d call new operation) e = absurd (true≢false (sym e))
+entry_is_kernels (moves.Refused d call errno) e = absurd (true≢false (sym e))
+entry_is_kernels (moves.Began d b) e = absurd (true≢false (sym e))
+entry_is_kernels (moves.Replied d) e = absurd (true≢false (sym e))
+entry_is_kernels (moves.Lost d) e = absurd (true≢false (sym e))
+entry_is_kernels (moves.Failed d) e = absurd (true≢false (sym e))
+entry_is_kernels (moves.Died d) e = absurd (true≢false (sym e))
+entry_is_kernels (moves.Departed d) e = absurd (true≢false (sym e))
+entry_is_kernels (moves.Buried d mark) e = refl
+entry_is_kernels (moves.Joined d mark) e = absurd (true≢false (sym e))
+entry_is_kernels (moves.Sealed d past records) e = absurd (true≢false (sym e))
+entry_is_kernels (moves.TookBack d) e = absurd (true≢false (sym e))
+entry_is_kernels (moves.WipedOther d) e = absurd (true≢false (sym e))
+entry_is_kernels (moves.WipedCurrent d) e = absurd (true≢false (sym e))
+entry_is_kernels (moves.Accepted d total) e = refl
+entry_is_kernels (moves.Digested d records) e = refl
+entry_is_kernels (moves.DigestFailed d records) e = absurd (true≢false (sym e))
+entry_is_kernels (moves.Reclaimed i) e = refl
+entry_is_kernels (moves.Met clients seen) e = absurd (true≢false (sym e))
+entry_is_kernels (moves.Shared o) e = absurd (true≢false (sym e))
+entry_is_kernels moves.Rejoined e = absurd (true≢false (sym e))
 
 -- ---- lists
 
@@ -84,7 +116,7 @@ module _ (c : ℕ) (takes : Move → Bool) (m : Move) (older : List Move) where
   ]
 
 kernels : (c : ℕ) (m : Move) → is_entry_of c m ≡ true → is_kernels m ≡ true
-kernels c m e = elim (either (is_kernels m)) [ inl on ↦ on | inr off ↦ absurd (true≢false (sym e ∙ ap (λ b. b && c == client_of m) off)) ]
+kernels c m e = elim (either (is_entry m)) [ inl on ↦ entry_is_kernels m on | inr off ↦ absurd (true≢false (sym e ∙ ap (λ b. b && c == client_of m) off)) ]
 
 pub entries_are : (c : ℕ) → is_client c ≡ true → (h : List Move)
     → entries_of c (projection (takes_part OfKernel) h) ≡ entries_of c (projection (takes_part (OfClient c)) h) + entries_of c (projection (takes_part (OfRegion c)) h)

@@ -1,7 +1,7 @@
 -- Each move is the world's own step: so a history keeps all that holds of a world, and its turns are a run of the file tree.
 use Rattle.std.proofs.Common.{◌≡◌, inl, inr, ℕ, ◌++◌, cond, List, [], ◌∷◌, refl, Some, Option, sym, ap, ◌∙◌, subst}
 use Rattle.posix_calls.specs.Tree.{State}
-use Rattle.posix_calls.specs.Operations.{reply_of}
+use Rattle.posix_calls.specs.Operations.{may_give_up, reply_of}
 use Rattle.posix_calls.specs.Run.{Turn, Asked, Departs, Takes, Run}
 use Rattle.posix_calls.specs.declared.call.Reply.TheVariants as replies
 use Rattle.posix_calls.proofs.Steps.{run_joined}
@@ -10,7 +10,7 @@ use Rattle.world_invariant.specs.call_effects.Knowledge.{with_copy}
 use Rattle.world_invariant.specs.World.{Alive, Away, Back, Wiped, Dead, Failed, Client, World, world_state, at, moved_world}
 use Rattle.world_invariant.specs.Invariant.{IsCoherent}
 use Rattle.world_invariant.specs.FormatWorld.{idle_account, idle_client}
-use Rattle.world_invariant.specs.ClientSteps.{with_client, call_begun, given_up, after_answer, after_failure, after_death}
+use Rattle.world_invariant.specs.ClientSteps.{with_client, call_begun, after_answer, after_failure, after_death}
 use Rattle.world_invariant.specs.LeaseSteps.{read_taken, write_taken, after_give, blocks_fetched}
 use Rattle.world_invariant.specs.BookSteps.{inode_pinned, after_unpin}
 use Rattle.world_invariant.specs.RegionSteps.{region_sealed, taken_back, other_wiped, current_wiped}
@@ -21,7 +21,7 @@ use Rattle.world_invariant.proofs.Leases.{read_taken_holds, read_taken_tree, wri
 use Rattle.world_invariant.proofs.Fetches.{blocks_fetched_hold, blocks_fetched_tree}
 use Rattle.world_invariant.proofs.Books.{pinned_holds, pinned_tree, unpinned_holds, unpinned_tree}
 use Rattle.world_invariant.proofs.Replies.{answered_holds, answered_step, refused, replied_step}
-use Rattle.world_invariant.proofs.Begins.{begun_holds, begun_tree, given_up_holds, given_up_tree, turned_holds, turned_tree}
+use Rattle.world_invariant.proofs.Begins.{begun_holds, begun_tree, turned_holds, turned_tree}
 use Rattle.world_invariant.proofs.Regions.{sealed_holds, sealed_tree, taken_back_holds, taken_back_tree, other_wiped_holds, other_wiped_tree, current_wiped_holds, current_wiped_tree}
 use Rattle.world_invariant.proofs.Digests.{digested_holds, digested_tree}
 use Rattle.world_invariant.proofs.Reclaims.{reclaimed_holds, reclaimed_tree}
@@ -30,7 +30,7 @@ use Rattle.world_history.specs.declared.moves.Move.{Move}
 use Rattle.world_history.specs.declared.moves.Move.TheVariants as moves
 use Rattle.world_history.specs.Configuration.{Configuration, world_of, tree_of}
 use Rattle.world_history.specs.Opening.{begun_of}
-use Rattle.world_history.specs.Moves.{client_of, restarts, replied, gave_up, without_blocks, client_moved, after_move}
+use Rattle.world_history.specs.Moves.{client_of, restarts, replied, without_blocks, client_moved, after_move}
 use Rattle.world_history.specs.Conditions.{MayFollow}
 use Rattle.world_history.specs.History.{after_moves, begun_turn, turn_of, turns_in, restarted, opening_of, IsHistory}
 use Rattle.world_history.proofs.Grants.{granted_world, granted_holds, granted_tree, granted_is, returned_world, returned_holds, returned_tree, returned_is}
@@ -92,7 +92,10 @@ module _ (s : Configuration) where
   keeps (moves.Answered c call new operation) h may = by _ (after_answer w c new operation) (Asked c call (reply_of operation) ∷ []) (is_part c (moves.Answered c call new operation))
       (answered_holds w c call new operation h may) (world_state (after_answer w c new operation), answered_step w c call new operation h may, refl)
   keeps (moves.Refused c call errno) h may = by _ w (Asked c call (replies.Failed errno) ∷ []) (nobodys s c) h
-      (world_state w, elim may.1 [ inl known ↦ refused w c h may.0 call errno known | inr give ↦ inr (errno, give, refl, refl) ], refl)
+      (world_state w, elim may.1 [
+        | inl can ↦ elim can.why [ inl known ↦ refused w c h may.0 call errno known | inr give ↦ inr (errno, give, refl, refl) ]
+        | inr can ↦ inr (errno, ap may_give_up can.io, refl, refl)
+      ], refl)
   keeps (moves.Began c b) h may = still _ (call_begun w c (begun_of b)) (is_part c (moves.Began c b)) (begun_holds w c (begun_of b) h may) (begun_tree w c (begun_of b) h may)
   keeps (moves.Replied c) h may = let b = may.0 in
       subst (λ turns. Goes (world_state w) turns (world_of (after_move s (moves.Replied c)))) (ap (begun_turn c) (sym may.1.there))
@@ -100,9 +103,6 @@ module _ (s : Configuration) where
       (is_part c (moves.Replied c) ∙ ap (λ o. with_client w c (replied o (s.clients c))) may.1.there)
       (steps.answered_holds w c b h may.1)
       (world_state (with_client w c (replied (Some b) (s.clients c))), subst (Takes (world_state w) (Asked c b.call (reply_of b.operation))) (sym (steps.answered_tree w c b h may.1)) (replied_step w c b h may.1), refl))
-  keeps (moves.GaveUp c) h may = let b = may.0 in still _ (given_up w c b)
-      (is_part c (moves.GaveUp c) ∙ ap (λ o. with_client w c (gave_up o (s.clients c))) may.1.there)
-      (given_up_holds w c b h may.1) (given_up_tree w c b h may.1)
   keeps (moves.Lost c) h may = still _ (part_moved c (moves.Lost c)) (is_part c (moves.Lost c)) (steps.lost_holds w c may.0 h may.1) (steps.lost_tree w c may.0 h may.1)
   keeps (moves.Failed c) h may = still _ (after_failure w c) (is_part c (moves.Failed c)) (turned_holds w c Failed h may.client refl (λ off. absurd (off refl))) (turned_tree w c Failed h may.client refl (λ off. absurd (off refl)))
   keeps (moves.Died c) h may = still _ (after_death w c) (is_part c (moves.Died c))

@@ -9,7 +9,7 @@ use Rattle.world_invariant.proofs.Records.{either}
 use Rattle.world_history.specs.declared.moves.Move.{Move}
 use Rattle.world_history.specs.declared.moves.Move.TheVariants as moves
 use Rattle.world_history.specs.Configuration.{Configuration, world_of}
-use Rattle.world_history.specs.Moves.{client_moved, replied, gave_up}
+use Rattle.world_history.specs.Moves.{client_moved, replied}
 use Rattle.world_history.specs.Conditions.{HoldsNothing, MayFollow}
 use Rattle.world_history.specs.History.{after_moves, IsHistory}
 use Rattle.world_history.specs.Participants.{OfClient, takes_part, projection}
@@ -19,10 +19,6 @@ use Rattle.world_history.proofs.Parts.{takes_on, takes_off, projected, unproject
 replied_leases : (o : Option Begun) (p : Client) (i : ℕ) → ((replied o p).reads i ≡ p.reads i) × ((replied o p).writes i ≡ p.writes i)
 replied_leases None p i = (refl, refl)
 replied_leases (Some b) p i = (refl, refl)
-
-gave_up_leases : (o : Option Begun) (p : Client) (i : ℕ) → ((gave_up o p).reads i ≡ p.reads i) × ((gave_up o p).writes i ≡ p.writes i)
-gave_up_leases None p i = (refl, refl)
-gave_up_leases (Some b) p i = (refl, refl)
 
 own_of : (c d : ℕ) → (((c == d && true) || false) || false) ≡ true → c ≡ d
 own_of c d on = elim (eqb_tells c d) [
@@ -48,7 +44,6 @@ lease_moves s c (moves.Answered d call new operation) may on j = (refl, refl)
 lease_moves s c (moves.Refused d call errno) may on j = (refl, refl)
 lease_moves s c (moves.Began d b) may on j = (refl, refl)
 lease_moves s c (moves.Replied d) may on j = replied_leases (s.clients c).begun (s.clients c) j
-lease_moves s c (moves.GaveUp d) may on j = gave_up_leases (s.clients c).begun (s.clients c) j
 lease_moves s c (moves.Lost d) may on j = (refl, refl)
 lease_moves s c (moves.Failed d) may on j = (refl, refl)
 lease_moves s c (moves.Died d) may on j = (refl, refl)

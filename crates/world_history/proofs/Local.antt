@@ -33,7 +33,6 @@ is_local (moves.Answered d call new operation) on s k e may = record { client = 
 is_local (moves.Refused d call errno) on s k e may = may
 is_local (moves.Began d b) on s k e may = record { client = may.client; alive = may.alive; idle = may.idle; ready = may.ready; planned = may.planned; some = may.some; counted = may.counted; leased = may.leased; enough = may.enough; pinned = may.pinned }
 is_local (moves.Replied d) on s k e may = (may.0, record { client = may.1.client; there = may.1.there; known = may.1.known })
-is_local (moves.GaveUp d) on s k e may = (may.0, record { client = may.1.client; there = may.1.there; known = may.1.known })
 is_local (moves.Lost d) on s k e may = (may.0, record { client = may.1.client; dead = may.1.dead; there = may.1.there })
 is_local (moves.Failed d) on s k e may = record { client = may.client; running = may.running }
 is_local (moves.Died d) on s k e may = record { client = may.client; alive = may.alive }

@@ -46,7 +46,6 @@ sees_nothing s h (moves.Answered d call new operation) on = tt
 sees_nothing s h (moves.Refused d call errno) on = tt
 sees_nothing s h (moves.Began d b) on = tt
 sees_nothing s h (moves.Replied d) on = tt
-sees_nothing s h (moves.GaveUp d) on = tt
 sees_nothing s h (moves.Lost d) on = tt
 sees_nothing s h (moves.Failed d) on = tt
 sees_nothing s h (moves.Died d) on = tt

@@ -12,7 +12,7 @@ use Rattle.world_history.specs.Participants.{Participant, OfKernel, OfClient, Of
 use Rattle.world_history.specs.Together.{Every, PartMoves, Lists, Together, MayBeSaid, with_move, Has, HasTurnsOf, HaveOneRun}
 use Rattle.world_history.proofs.Keeping.{history_keeps}
 use Rattle.world_history.proofs.Parts.{projected, unprojected, restart_is_of_client, restart_is_of_kernel, restart_is_of_region}
-use Rattle.world_history.proofs.Turns.{seen_begins, turns_are, turns_are_of_clients}
+use Rattle.world_history.proofs.Turns.{meeting_begins, seen_begins, turns_are, turns_are_of_clients}
 
 -- what follows of each of a list
 pub every : {A : Type 0} (P Q : A → Type 0) → ((x : A) → P x → Q x) → (xs : List A) → Every P xs → Every Q xs
@@ -35,7 +35,6 @@ restarted_stays (moves.Answered d call new operation) old e = refl
 restarted_stays (moves.Refused d call errno) old e = refl
 restarted_stays (moves.Began d b) old e = refl
 restarted_stays (moves.Replied d) old e = refl
-restarted_stays (moves.GaveUp d) old e = refl
 restarted_stays (moves.Lost d) old e = refl
 restarted_stays (moves.Failed d) old e = refl
 restarted_stays (moves.Died d) old e = refl
@@ -71,7 +70,11 @@ restart_is_of (OfRegion c) m e = restart_is_of_region c m e
 pub has_turns : (s : Configuration) (h : List Move) → IsHistory s h → (q : Participant) → Has s (turns_in s h) q (projection (takes_part q) h)
 has_turns s h is OfKernel = tt
 has_turns s h is (OfRegion c) = tt
-has_turns s h is (OfClient c) = (turns_are s c h, seen_begins s c h is)
+has_turns s h is (OfClient c) = record {
+  own = turns_are s c h;
+  last = seen_begins s c h is;
+  each = λ newer clients seen older meeting. meeting_begins s c h is newer clients seen older meeting.listed meeting.going;
+}
 
 pub one_run : (s : Configuration) (parts : List PartMoves) → IsCoherent (world_of s) → Together s parts → HaveOneRun s parts
 one_run s parts h t = record {

@@ -5,11 +5,12 @@ use Rattle.posix_calls.specs.Operations.{is_client, may_give_up}
 use Rattle.posix_calls.specs.Part.{Known, run_part}
 use Rattle.posix_calls.specs.declared.call.Call.{Call}
 use Rattle.posix_calls.specs.declared.errno.Errno.{Errno}
+use Rattle.posix_calls.specs.declared.errno.Errno.TheVariants.{IoError}
 use Rattle.world_invariant.specs.file_graph.Graph.{is_among}
 use Rattle.world_invariant.specs.call_effects.Knowledge.{part_of}
 use Rattle.world_invariant.specs.call_effects.NodeView.{view_at}
 use Rattle.world_invariant.specs.Logs.{IsDistinct}
-use Rattle.world_invariant.specs.World.{Away, Begun, Client, World, has_lease}
+use Rattle.world_invariant.specs.World.{Alive, Away, Begun, Client, Failed, World, has_lease}
 use Rattle.world_invariant.specs.LeaseSteps.{own_view, IsUnwritten, IsUnheld, CanGive, CanRead}
 use Rattle.world_invariant.specs.BookSteps.{HasRoom, IsUnbooked, CanUnpin}
 use Rattle.world_invariant.specs.ClientSteps.{CanAnswer, CanBegin, IsBegun, CanFail, CanDie}
@@ -49,9 +50,20 @@ pub record HoldsNothing (p : Client) : Type 0 where
   pub reads : (i : ℕ) → p.reads i ≡ false
   pub writes : (i : ℕ) → p.writes i ≡ false
 
--- a call is refused by what the client knows, or given up
+-- a living client that has begun no call refuses one by what it knows, or gives it up
+pub record CanRefuseIdle (p : Client) (call : Call) (errno : Errno) : Type 0 where
+  pub alive : p.status ≡ Alive
+  pub idle : p.begun ≡ None
+  pub why : (run_part (part_of p.knows) (decide p.knows.own call) ≡ Known (Err errno)) ⊎ (may_give_up errno ≡ true)
+
+-- one whose device failed refuses every call, and for that alone
+pub record CanRefuseFailed (p : Client) (errno : Errno) : Type 0 where
+  pub failed : p.status ≡ Failed
+  pub io : errno ≡ IoError
+
+-- a call is refused; no call of a client that died is
 abbrev pub CanRefuse : World → ℕ → Call → Errno → Type 0
-CanRefuse w c call errno = (is_client c ≡ true) × ((run_part (part_of (w.clients c).knows) (decide (w.clients c).knows.own call) ≡ Known (Err errno)) ⊎ (may_give_up errno ≡ true))
+CanRefuse w c call errno = (is_client c ≡ true) × (CanRefuseIdle (w.clients c) call errno ⊎ CanRefuseFailed (w.clients c) errno)
 
 -- no device of the kernel has failed in a digest: after one it changes its graph no more
 abbrev pub IsGoing : Configuration → Type 0
@@ -71,7 +83,6 @@ MayFollow s (moves.Answered c call new operation) = CanAnswer (world_of s) c cal
 MayFollow s (moves.Refused c call errno) = CanRefuse (world_of s) c call errno
 MayFollow s (moves.Began c b) = CanBegin (world_of s) c (begun_of b)
 MayFollow s (moves.Replied c) = (b : Begun) × IsBegun (world_of s) c b
-MayFollow s (moves.GaveUp c) = (b : Begun) × IsBegun (world_of s) c b
 MayFollow s (moves.Lost c) = (b : Begun) × IsDying (world_of s) c b
 MayFollow s (moves.Failed c) = CanFail (world_of s) c
 MayFollow s (moves.Died c) = CanDie (world_of s) c

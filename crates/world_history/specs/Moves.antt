@@ -31,7 +31,6 @@ client_of (moves.Answered c call new operation) = c
 client_of (moves.Refused c call errno) = c
 client_of (moves.Began c b) = c
 client_of (moves.Replied c) = c
-client_of (moves.GaveUp c) = c
 client_of (moves.Lost c) = c
 client_of (moves.Failed c) = c
 client_of (moves.Died c) = c
@@ -79,10 +78,6 @@ abbrev pub replied : Option Begun → Client → Client
 replied None p = p
 replied (Some b) p = record p { begun = None; current = p.current ++ (b.change ∷ []); knows = knows_replied p.knows b.new b.operation b.change.effects }
 
-abbrev pub gave_up : Option Begun → Client → Client
-gave_up None p = p
-gave_up (Some b) p = record p { begun = None; spare = p.spare + b.change.units }
-
 -- what a move makes of client c, if it is of it or of all
 abbrev pub client_moved : ℕ → Move → Client → Client
 client_moved c (moves.TookRead d i) p = record p { reads = also p.reads i }
@@ -98,7 +93,6 @@ client_moved c (moves.Answered d call new operation) p = record p { knows = know
 client_moved c (moves.Refused d call errno) p = p
 client_moved c (moves.Began d b) p = record p { begun = Some (begun_of b); spare = p.spare - b.change.units }
 client_moved c (moves.Replied d) p = replied p.begun p
-client_moved c (moves.GaveUp d) p = gave_up p.begun p
 client_moved c (moves.Lost d) p = record p { begun = None }
 client_moved c (moves.Failed d) p = record p { status = Failed }
 client_moved c (moves.Died d) p = record p { status = Dead }

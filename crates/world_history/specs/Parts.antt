@@ -1,5 +1,5 @@
 -- What a part is, by the moves in which it takes part alone.
-use Rattle.std.specs.Prelude.{◌≡◌, ℕ, ◌+◌, ◌==◌, ◌&&◌, List, [], ◌∷◌, ◌++◌, length, Bool, true, Option, Some, None, if◌then◌else◌}
+use Rattle.std.specs.Prelude.{◌≡◌, ℕ, ◌+◌, ◌==◌, ◌&&◌, List, [], ◌∷◌, ◌++◌, length, Bool, true, false, Option, Some, None, if◌then◌else◌}
 use Rattle.posix_calls.specs.Run.{Turn}
 use Rattle.posix_calls.specs.Operations.{is_client}
 use Rattle.world_invariant.specs.Invariant.{IsCoherent}
@@ -11,7 +11,6 @@ use Rattle.world_history.specs.Configuration.{AwayRegion, Configuration, KernelP
 use Rattle.world_history.specs.Opening.{opening_configuration}
 use Rattle.world_history.specs.Moves.{client_of, restarts, client_moved, kernel_moved}
 use Rattle.world_history.specs.History.{NoneRestarts, turn_of}
-use Rattle.world_history.specs.Participants.{is_kernels}
 
 abbrev pub kernel_after : KernelPart → List Move → KernelPart
 kernel_after k [] = k
@@ -67,8 +66,20 @@ pub record ListsMeeting (ms newer : List Move) (clients : List ℕ) (seen : List
 
 -- ---- how many entries of the kernel are of a client
 
+-- whether it is an entry that moves the kernel's machine: a fetch only reads, and a digest in which a device failed moves nothing
+abbrev pub is_entry : Move → Bool
+is_entry (moves.Granted c units numbers) = true
+is_entry (moves.Returned c units numbers) = true
+is_entry (moves.Pinned c i) = true
+is_entry (moves.Unpinned c i) = true
+is_entry (moves.Buried c mark) = true
+is_entry (moves.Accepted c total) = true
+is_entry (moves.Digested c records) = true
+is_entry (moves.Reclaimed i) = true
+is_entry _ = false
+
 abbrev pub is_entry_of : ℕ → Move → Bool
-is_entry_of c m = is_kernels m && c == client_of m
+is_entry_of c m = is_entry m && c == client_of m
 
 abbrev pub entries_of : ℕ → List Move → ℕ
 entries_of c [] = 0

@@ -8,7 +8,7 @@ use Rattle.world_history.specs.Configuration.{Configuration, tree_of}
 use Rattle.world_history.specs.Conditions.{MayFollow}
 use Rattle.world_history.specs.History.{after_moves, IsHistory, SeesAll, opening_of}
 use Rattle.world_history.specs.Participants.{Participant, OfKernel, OfClient, OfRegion, takes_part, moves_of}
-use Rattle.world_history.specs.Parts.{client_by, kernel_by, seen_by, turns_of}
+use Rattle.world_history.specs.Parts.{ListsMeeting, client_by, kernel_by, seen_by, turns_of}
 
 -- each of a list is so
 abbrev pub Every : {A : Type 0} → (A → Type 0) → List A → Type 0
@@ -64,11 +64,20 @@ with_move m p = record p { moves = if takes_part p.participant m then m ∷ p.mo
 
 -- ---- one run
 
--- the turns of a client are those of its list, in their order, and begin with what it saw
+abbrev pub BeginsWith : List Turn → List Turn → Type 0
+BeginsWith seen turns = (rest : List Turn) × (turns ≡ seen ++ rest)
+
+-- The turns of a client are those of its list, in their order. They begin with what it saw at each meeting, in which of its own turns there are just
+-- those that it had made before: so each turn stands behind all that its client had seen.
+pub record HasClients (s : Configuration) (turns : List Turn) (c : ℕ) (moves : List Move) : Type 0 where
+  pub own : turns_by c turns ≡ turns_of c (s.clients c) moves
+  pub last : BeginsWith (seen_by moves) turns
+  pub each : (newer : List Move) (clients : List ℕ) (seen : List Turn) (older : List Move) → ListsMeeting moves newer clients seen older → BeginsWith seen turns × (turns_by c seen ≡ turns_of c (s.clients c) older)
+
 abbrev pub Has : Configuration → List Turn → Participant → List Move → Type 0
 Has s turns OfKernel moves = Unit {0}
 Has s turns (OfRegion c) moves = Unit {0}
-Has s turns (OfClient c) moves = (turns_by c turns ≡ turns_of c (s.clients c) moves) × ((rest : List Turn) × (turns ≡ seen_by moves ++ rest))
+Has s turns (OfClient c) moves = HasClients s turns c moves
 
 abbrev pub HasTurnsOf : Configuration → List Turn → PartMoves → Type 0
 HasTurnsOf s turns p = Has s turns p.participant p.moves

@@ -63,8 +63,6 @@ pub enum Move {
     Began(u64, BegunCall),
     /// The begun record is in the log, and its call answered; or it was found there once its client had died.
     Replied(u64),
-    /// The begun call was given up, and its units are the client's again.
-    GaveUp(u64),
     /// The begun record of a dead client was not found in its log.
     Lost(u64),
     /// A device of the client failed: what becomes of a begun call is never known.
