@@ -10,6 +10,7 @@ use Rattle.lease_manager.specs.Words.{HasWord, lease_place}
 use Rattle.lease_manager.specs.Passes.{PassView, lease_of, without_lease}
 use Rattle.lease_manager.specs.PassLeases.{given_up_to, is_held, without_held}
 use Rattle.lease_manager.specs.LeaseCounts.{CountsAs}
+use Rattle.lease_manager.specs.Said.{CanGiveBack}
 
 not_held : (mode : LeaseMode) → is_held mode ≡ false → mode ≡ Free
 not_held Free is = refl
@@ -29,6 +30,12 @@ module _ (q : PassView) (i : ℕ) where
   held_keeps p h = elim (is_held (lease_of q i)) as (λ b. CountsAs p (cond b (without_lease q i) q)) [
     | true ↦ record { table = h.table; place = h.place; records = h.records }
     | false ↦ h
+  ]
+
+  held_clean : (j : ℕ) → CanGiveBack q.part j → CanGiveBack (without_held q i).part j
+  held_clean j can = elim (is_held (lease_of q i)) as (λ b. CanGiveBack (cond {A = PassView} b (without_lease q i) q).part j) [
+    | true ↦ record { idle = can.idle; clean = can.clean }
+    | false ↦ can
   ]
 
   held_free : lease_of (without_held q i) i ≡ Free
@@ -60,6 +67,11 @@ module _ (p : PassView) where
   given_keeps zero = record { table = refl; place = refl; records = refl }
   given_keeps (suc n) = held_keeps (given_up_to p n) (n + 1) p (given_keeps n)
 
+  given_clean : (n j : ℕ) → CanGiveBack p.part j → CanGiveBack (given_up_to p n).part j
+  unfolding given_up_to
+  given_clean zero j can = can
+  given_clean (suc n) j can = held_clean (given_up_to p n) (n + 1) j (given_clean n j can)
+
   given_free : (n i : ℕ) → HasWord i → i ≤ n → lease_of (given_up_to p n) i ≡ Free
   unfolding given_up_to
   given_free zero i word le = absurd (omega (arith, le, word.0))
@@ -70,6 +82,9 @@ module _ (p : PassView) where
   module _ (q : PassView) (n : ℕ) where
     pub all_kept : q ≡ given_up_to p n → CountsAs p q
     all_kept is = subst (CountsAs p) (sym is) (given_keeps n)
+
+    pub all_clean : q ≡ given_up_to p n → (j : ℕ) → CanGiveBack p.part j → CanGiveBack q.part j
+    all_clean is j can = subst (λ (r : PassView). CanGiveBack r.part j) (sym is) (given_clean n j can)
 
     pub all_free : n ≤ 1024 → 1024 ≤ n → q ≡ given_up_to p n → (i : ℕ) → HasWord i → lease_of q i ≡ Free
     all_free low high is i word = ap (λ (r : PassView). lease_of r i) is ∙ given_free n i word (omega (arith, word.1, high))

@@ -1,7 +1,10 @@
 pub mod OneWord
+pub mod Places
+pub mod MoveSteps
 pub mod Opens
 pub mod Steps
 pub mod Seats
+pub mod Sayings
 pub mod PassFacts
 pub mod Waiting
 pub mod Cleaned

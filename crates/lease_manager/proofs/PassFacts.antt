@@ -1,5 +1,8 @@
 -- What a pass keeps when its own part changes.
-use Rattle.std.proofs.Common.{◌≡◌, ◌≢◌, ℕ, ◌<◌, ◌≤◌, List, get_or, set, replicate, sym, ap, ◌∙◌, subst, set-set, lt_of_not-le, arith}
+use Rattle.std.proofs.Common.{◌≡◌, ◌≢◌, ℕ, ◌<◌, ◌≤◌, List, [], ◌∷◌, length, get_or, set, replicate, sym, ap, ◌∙◌, subst, set-set, lt_of_not-le, arith}
+use Rattle.std.specs.Prelude.{Option, Some}
+use Rattle.atomic_table.specs.Seated.{TableId}
+use Rattle.world_history.specs.declared.moves.Move.{Move}
 use Rattle.std.proofs.lemmas.List.{set-get_or, get_or_past, get_or-replicate, length-replicate}
 use mathlib.Core.Logic.{dite}
 use native.Mathlib.Decide.{dec_le}
@@ -8,8 +11,10 @@ use Rattle.lease_manager.specs.declared.view.LeaseMode.TheVariants.{Free, Trying
 use Rattle.lease_manager.specs.declared.view.Event.{Event}
 use Rattle.lease_manager.specs.declared.view.Event.TheVariants.{Gave}
 use Rattle.lease_manager.specs.declared.view.Part.{Part}
-use Rattle.lease_manager.specs.Parts.{mode_at, put_mode, put_event, put_free, blank, IsSettled}
-use Rattle.lease_manager.specs.Passes.{AreHeld}
+use Rattle.lease_manager.specs.Parts.{mode_at, put_mode, put_event, put_free, blank, own_part, other_parts, IsSettled}
+use Rattle.lease_manager.specs.Said.{with_move}
+use Rattle.lease_manager.specs.Law.{SeatState}
+use Rattle.lease_manager.specs.Passes.{AreHeld, IsRegionOf, PartView}
 
 free_not_trying : Free ≢ Trying
 free_not_trying e = absurd (cc)
@@ -32,3 +37,30 @@ held_none modes records n is = subst (AreHeld modes) (sym is) (λ i some. absurd
 -- a client that had no mark, and took its failed try out, stands as it did, but for the two steps
 pub tried_in_vain : (p : Part) (i : ℕ) (e : Event) → mode_at p i ≡ Free → put_free (put_event (put_mode p i Trying) e) i ≡ put_event (put_event p e) (Gave i)
 tried_in_vain p i e free = ap (λ (l : List LeaseMode). record (put_event (put_event p e) (Gave i)) { modes = l }) (set-set p.modes i Trying Free ∙ ap (set p.modes i) (sym free) ∙ set-get_or p.modes i Free)
+
+-- ---- a pass whose part says a move
+
+-- what holds of a pass: its seat, of this table, its place, modes, counts, and its region's pass
+abbrev pub IsPass : SeatState → TableId → ℕ → List LeaseMode → List ℕ → Option PartView → Type 0
+IsPass me id place modes counts region = (me ≡ (own_part me.0 ∷ other_parts me.0, [])) × (other_parts me.0 ≡ []) × ((own_part me.0).place ≡ place) × (place < 8) × ((own_part me.0).modes ≡ modes) × (length modes ≡ 1024) × (length counts ≡ 1024)
+    × IsSettled (own_part me.0) × AreHeld modes counts × ((r : PartView) → region ≡ Some r → IsRegionOf id place r)
+
+-- a seat that carries one part
+pub lone : (me : SeatState) (p : Part) → me ≡ (p ∷ [], []) → me ≡ (own_part me.0 ∷ other_parts me.0, [])
+lone me p is = let back = sym (ap (λ (m : SeatState). own_part m.0) is) in let back' = sym (ap (λ (m : SeatState). other_parts m.0) is) in is ∙ (λ k. (back k ∷ back' k, []))
+
+module _ (m : Move) (me me' : SeatState) (id id' : TableId) (place : ℕ) (modes : List LeaseMode) (counts : List ℕ) (region region' : Option PartView) where
+  pub said_pass : IsPass me id place modes counts region → me' ≡ (with_move m (own_part me.0) ∷ [], []) → ((r : PartView) → region' ≡ Some r → IsRegionOf id' place r) → IsPass me' id' place modes counts region'
+  said_pass i is home =
+      let own = ap (λ (u : SeatState). own_part u.0) is in (
+        lone me' (with_move m (own_part me.0)) is,
+        ap (λ (u : SeatState). other_parts u.0) is,
+        ap (λ (p : Part). p.place) own ∙ i.2,
+        i.3,
+        ap (λ (p : Part). p.modes) own ∙ i.4,
+        i.5,
+        i.6,
+        subst IsSettled (sym own) i.7,
+        i.8,
+        home,
+      )

@@ -1,15 +1,13 @@
 -- Seats of clients are split and joined, and clients on one seat are compatible.
-use Rattle.std.proofs.Common.{◌≡◌, ℕ, List, [], ◌∷◌, ◌++◌, set, refl, sym, ap, ◌∙◌, subst, inl, inr}
-use Rattle.std.proofs.lemmas.List.{set-get_or}
-use mathlib.Core.Option.{none}
-use Rattle.atomic_table.specs.Table.{step, keeps, Allows, Splits, Joins}
+use Rattle.std.proofs.Common.{◌≡◌, ℕ, List, [], ◌∷◌, ◌++◌, refl, sym, ap, ◌∙◌, inl, inr}
+use Rattle.atomic_table.specs.Table.{Splits, Joins}
 use Rattle.lease_manager.specs.declared.view.Part.{Part}
 use Rattle.lease_manager.specs.Marks.{is_lease}
-use Rattle.seat_book.specs.Book.{HoldsPart, AreApart, IsBooked}
-use Rattle.seat_book.proofs.Book.{looks, splits_first as first_split, splits_nothing, joins}
+use Rattle.seat_book.specs.Book.{HoldsPart, AreApart}
+use Rattle.seat_book.proofs.Book.{splits_first as first_split, splits_nothing, joins}
 use Rattle.lease_manager.specs.Parts.{place_of, mode_at, first_part, other_parts}
-use Rattle.lease_manager.specs.Law.{TableState, SeatState, Law, IsRuled}
-use Rattle.lease_manager.specs.Plays.{AllCompatible, Met}
+use Rattle.lease_manager.specs.Law.{TableState, Law, IsRuled}
+use Rattle.lease_manager.specs.Plays.{AllCompatible}
 
 -- the first part stays
 pub splits_first : (id : ℕ) (v : List Part) → Splits IsRuled id v (first_part v) (other_parts v)
@@ -24,7 +22,7 @@ pub joins_together : (id : ℕ) (v : List Part) (other : ℕ) (w : List Part) �
 joins_together id v other w s r at apart at' = joins place_of Law s.words s.views r id v other w at apart at'
 
 -- clients on one seat are compatible
-compatible : (s : TableState) (r : IsRuled s) (v : List Part) → AreApart place_of v → ((p : Part) → HoldsPart v p → r.whole p.place ≡ p) → AllCompatible v
+pub compatible : (s : TableState) (r : IsRuled s) (v : List Part) → AreApart place_of v → ((p : Part) → HoldsPart v p → r.whole p.place ≡ p) → AllCompatible v
 compatible s r [] apart whole = tt
 compatible s r (p ∷ ps) apart whole = (
   (λ q has small small'. let a = whole p (inl refl) in let b = whole q (inr has) in let ne = apart.0 q has in (
@@ -35,18 +33,4 @@ compatible s r (p ∷ ps) apart whole = (
     ),
   )),
   compatible s r ps apart.1 (λ q has. whole q (inr has)),
-)
-
--- a look at the parts of one seat
-pub meets : (slots id : ℕ) (me : SeatState) → me.1 ≡ [] → Allows IsRuled slots id me 0 (λ n. n) (Met (step slots 0 0 0 none) me)
-meets slots id me bare s r _ at _ = let c = r.carried id me.0 at in (
-  me.0,
-  keeps,
-  tt,
-  subst (λ (words : List ℕ). IsBooked place_of Law words (set s.views id me.0)) (sym (set-get_or s.words 0 0)) (looks place_of Law s.words s.views r id me.0 at),
-  (
-    refl,
-    compatible s r me.0 c.0 (λ p has. (c.1 p has).1),
-    (r.lawful.steps.history, r.lawful.steps.legal, λ p has. r.lawful.steps.listed p.place ∙ ap (λ (u : Part). u.events) (c.1 p has).1),
-  ),
 )

@@ -14,13 +14,17 @@ use Rattle.lease_manager.specs.declared.view.Event.{Event}
 use Rattle.lease_manager.specs.declared.view.Event.TheVariants.{Took, Refused, Gave, Looked, Asked, Heard}
 use Rattle.lease_manager.specs.declared.view.Part.{Part}
 use Rattle.lease_manager.specs.Words.{both_marks}
-use Rattle.lease_manager.specs.Marks.{read_mark, write_mark, is_lease, Shows, ShowsOther}
-use Rattle.lease_manager.specs.Parts.{place_of, mode_at, put_mode, put_event, put_lease, put_free, Continues}
+use Rattle.lease_manager.specs.Marks.{read_mark, write_mark, is_lease, is_reading, is_writing, Shows, ShowsOther}
+use Rattle.lease_manager.specs.Said.{CanGiveBack, digest_count, reply_count}
+use Rattle.lease_manager.specs.Parts.{place_of, mode_at, put_mode, put_event, put_lease, put_free, put_given, Continues}
 use Rattle.lease_manager.specs.History.{steps_by, asked_after, IsAskedOf, MayFollow}
-use Rattle.lease_manager.specs.Law.{TableState, SeatState, HistoryLaw, Law, IsRuled}
-use Rattle.lease_manager.specs.Plays.{Exchanged, Tried, TookOut, Saw, DidAsk, DidHear, Listened}
+use Rattle.lease_manager.specs.Law.{TableState, SeatState, HistoryLaw, Law, MoveLaw, IsRuled}
+use Rattle.lease_manager.specs.Plays.{Exchanged, Tried, TookOut, Withdrew, Saw, DidAsk, DidHear, Listened}
+use Rattle.world_history.specs.declared.moves.Move.TheVariants as moves
 use Rattle.seat_book.proofs.Book.{but, but_same, but_other, first_steps}
 use Rattle.lease_manager.proofs.OneWord.{same_shows, taken_word, read_word, try_word, given_word, shows_other, shows_writer}
+use Rattle.lease_manager.proofs.Places.{gave_is_own, is_number, took_read_is_own, took_write_is_own}
+use Rattle.lease_manager.proofs.MoveSteps.{counts_put, may_give, may_read, may_write, moves_go, moves_stay, none_more, others_of_reader, others_of_writer, put_also, put_same, put_without, reads_by, taken_put, writes_by}
 
 -- the rule's part of a client is the one that stands first on its seat
 own : (s : TableState) (r : IsRuled s) (id : ℕ) (p : Part) (ps : List Part) → get_elem? s.views id ≡ some (p ∷ ps) → r.whole p.place ≡ p
@@ -28,6 +32,13 @@ own s r id p ps at = ((r.carried id (p ∷ ps) at).1 p (inl refl)).1
 
 own_mode : (s : TableState) (r : IsRuled s) (id i : ℕ) (p : Part) (ps : List Part) → get_elem? s.views id ≡ some (p ∷ ps) → mode_at (r.whole p.place) i ≡ mode_at p i
 own_mode s r id i p ps at = ap (λ (u : Part). mode_at u i) (own s r id p ps at)
+
+-- the leases of the own part are those of its moves
+abbrev HoldsTaken : Part → Type 0
+HoldsTaken q = (i : ℕ) → i < 1024 → (is_reading (mode_at q i) ≡ reads_by q.moves (i + 1)) × (is_writing (mode_at q i) ≡ writes_by q.moves (i + 1))
+
+own_taken : (s : TableState) (r : IsRuled s) (id : ℕ) (p : Part) (ps : List Part) → get_elem? s.views id ≡ some (p ∷ ps) → p.place < 8 → HoldsTaken p
+own_taken s r id p ps at small i low = subst (λ (u : Part). (is_reading (mode_at u i) ≡ reads_by u.moves (i + 1)) × (is_writing (mode_at u i) ≡ writes_by u.moves (i + 1))) (own s r id p ps at) (r.lawful.taken p.place i small low)
 
 -- where the own part keeps its mode at the word j, all modes there are kept
 kept_modes : (s : TableState) (r : IsRuled s) (id j : ℕ) (p q : Part) (ps : List Part) → get_elem? s.views id ≡ some (p ∷ ps) → mode_at q j ≡ mode_at p j → (c : ℕ) → mode_at (but r.whole p.place q c) j ≡ mode_at (r.whole c) j
@@ -59,20 +70,25 @@ adds : (s : TableState) (r : IsRuled s) (id i n : ℕ) (p : Part) (ps : List Par
     → ((j : ℕ) → j < 1024 → get_or (set s.words i n) j 0 ≡ get_or s.words j 0)
     → MayFollow r.lawful.steps.history p.place e
     → ((w : ℕ) → 1024 ≤ w → w < 1152 → get_or (set s.words i n) w 0 ≡ asked_after w e (get_or s.words w 0))
+    → ((w : ℕ) → 1152 ≤ w → get_or (set s.words i n) w 0 ≡ get_or s.words w 0)
     → IsRuled (stepped s i n id [] (put_event p e ∷ ps) keeps)
-adds s r id i n p ps e at same may now = first_steps place_of Law s.words (set s.words i n) s.views r id p (put_event p e) ps at refl record {
+adds s r id i n p ps e at same may now counts = first_steps place_of Law s.words (set s.words i n) s.views r id p (put_event p e) ps at refl record {
   wide = length-set s.words i n ∙ r.lawful.wide;
   leases = λ j lt. subst (λ (z : ℕ). Shows z (λ c. mode_at (but r.whole p.place (put_event p e) c) j)) (sym (same j lt))
       (same_shows _ _ _ (r.lawful.leases j lt) (kept_modes s r id j p (put_event p e) ps at refl));
   steps = goes_on s.words r.whole r.lawful.steps i n p.place e (put_event p e) (one_more s r id p (put_event p e) ps e at refl) may now;
+  moves = moves_stay r.whole p.place (put_event p e) r.lawful.moves (ap (λ (u : Part). u.moves) (sym (own s r id p ps at)));
+  taken = taken_put r.whole p.place (put_event p e) (own_taken s r id p ps at) r.lawful.taken;
+  counted = counts_put r.whole p.place (put_event p e) s.words (set s.words i n) counts (ap (λ (u : Part). reply_count u.moves) (sym (own s r id p ps at))) (ap (λ (u : Part). digest_count u.moves) (sym (own s r id p ps at))) r.lawful.counted;
 }
 
 -- a step that puts the own mode at the lease word i; q is the part with that mode and one event more, which says nothing of asked words
 puts : (s : TableState) (r : IsRuled s) (id i n : ℕ) (p q : Part) (ps : List Part) (mode : LeaseMode) (e : Event) → get_elem? s.views id ≡ some (p ∷ ps) → i < 1024 → length p.modes ≡ 1024 → q.place ≡ p.place → q.modes ≡ (put_mode p i mode).modes
     → q.events ≡ e ∷ p.events → MayFollow r.lawful.steps.history p.place e → ((w n : ℕ) → asked_after w e n ≡ n)
     → ((m' : ℕ → LeaseMode) → ((d : ℕ) → d ≢ p.place → m' d ≡ mode_at (r.whole d) i) → m' p.place ≡ mode → Shows n m')
+    → MoveLaw (but r.whole p.place q) → HoldsTaken q → reply_count q.moves ≡ reply_count p.moves → digest_count q.moves ≡ digest_count p.moves
     → IsRuled (stepped s i n id [] (q ∷ ps) keeps)
-puts s r id i n p q ps mode e at lt long stands same more may silent shows = first_steps place_of Law s.words (set s.words i n) s.views r id p q ps at stands record {
+puts s r id i n p q ps mode e at lt long stands same more may silent shows listed holds replies digests = first_steps place_of Law s.words (set s.words i n) s.views r id p q ps at stands record {
   wide = length-set s.words i n ∙ r.lawful.wide;
   leases = λ j small. dite (ℕ_discrete j i)
       (λ e. let w = r.lawful.wide in subst (λ (z : ℕ). Shows z (λ c. mode_at (but r.whole p.place q c) j)) (sym (ap (λ (z : ℕ). get_or (set s.words i n) z 0) e ∙ get_or-set_same s.words i n 0 (omega arith)))
@@ -83,6 +99,9 @@ puts s r id i n p q ps mode e at lt long stands same more may silent shows = fir
       (same_shows _ _ _ (r.lawful.leases j small) (kept_modes s r id j p q ps at (ap (λ (l : List LeaseMode). get_or l j Free) same ∙ get_or-set_other p.modes i j mode Free ne))));
   steps = goes_on s.words r.whole r.lawful.steps i n p.place e q (one_more s r id p q ps e at more) may
       (λ w ge _. get_or-set_other s.words i w n 0 (λ z. omega arith) ∙ sym (silent w (get_or s.words w 0)));
+  moves = listed;
+  taken = taken_put r.whole p.place q (λ small. holds) r.lawful.taken;
+  counted = counts_put r.whole p.place q s.words (set s.words i n) (λ w ge. get_or-set_other s.words i w n 0 (λ z. omega arith)) (replies ∙ ap (λ (u : Part). reply_count u.moves) (sym (own s r id p ps at))) (digests ∙ ap (λ (u : Part). digest_count u.moves) (sym (own s r id p ps at))) r.lawful.counted;
 }
 
 -- what is written back changes no word
@@ -98,6 +117,9 @@ takes slots id i from new p ps lt small long is shown_read unwritten alone s r _
     let k : ℕ = p.place in
     let m_k = own_mode s r id i p ps at in
     let sh = r.lawful.leases i lt in
+    let mine = own s r id p ps at in
+    let before = own_taken s r id p ps at small in
+    let modes : ℕ → LeaseMode = λ c. mode_at (r.whole c) i in
     let won : SeatState = (put_lease p i Writing ∷ ps, []) in
     let lost : SeatState = (put_event p (Refused i n) ∷ ps, []) in
     dite (ℕ_discrete n from)
@@ -107,15 +129,20 @@ takes slots id i from new p ps lt small long is shown_read unwritten alone s r _
       tt,
       subst (λ b. IsRuled (stepped s i (either b new n) id [] won.0 keeps)) (sym (eq-eqb n from hit))
           (puts s r id i new p (put_lease p i Writing) ps Writing (Took i Writing) at lt long refl refl refl tt (λ w n. refl)
-          (λ m' others now. subst (λ (z : ℕ). Shows z m') (sym is)
-          (taken_word n k (λ c. mode_at (r.whole c) i) m' small sh (λ b ne. ap (λ (z : ℕ). bit_at z b) hit ∙ alone b ne) others now))),
+          (λ m' others now. subst (λ (z : ℕ). Shows z m') (sym is) (taken_word n k modes m' small sh (λ b ne. ap (λ (z : ℕ). bit_at z b) hit ∙ alone b ne) others now))
+          (moves_go r.whole k (put_lease p i Writing) r.lawful.moves (moves.TookWrite (k + 1) (i + 1)) small (took_write_is_own (k + 1) (i + 1))
+          (is_number k small, may_write r.whole r.lawful.moves r.lawful.taken k i lt (others_of_writer (2 ^ (8 + k)) k modes
+          (taken_word n k modes (but modes k Writing) small sh (λ b ne. ap (λ (z : ℕ). bit_at z b) hit ∙ alone b ne) (λ d ne. but_other modes k d Writing ne) (but_same modes k k Writing refl)) small))
+          tt (ap (λ (u : Part). moves.TookWrite (k + 1) (i + 1) ∷ u.moves) (sym mine)))
+          (λ j low. (put_without p i Writing lt long is_reading (reads_by p.moves) (λ j low. (before j low).0) refl j low, put_also p i Writing lt long is_writing (writes_by p.moves) (λ j low. (before j low).1) refl j low))
+          (none_more (reply_count p.moves)) (none_more (digest_count p.moves))),
       subst (λ b. MatchBool b (won ≡ won) ((won ≡ lost) × ShowsOther k n)) (sym (eq-eqb n from hit)) refl,
     ))
     (λ miss. (
       lost.0,
       keeps,
       tt,
-      subst (λ b. IsRuled (stepped s i (either b new n) id [] lost.0 keeps)) (sym (ne_eqb n from miss)) (adds s r id i n p ps (Refused i n) at (λ j _. unchanged s i j) tt (λ w _ _. unchanged s i w)),
+      subst (λ b. IsRuled (stepped s i (either b new n) id [] lost.0 keeps)) (sym (ne_eqb n from miss)) (adds s r id i n p ps (Refused i n) at (λ j _. unchanged s i j) tt (λ w _ _. unchanged s i w) (λ w _. unchanged s i w)),
       subst (λ b. MatchBool b (lost ≡ won) ((lost ≡ lost) × ShowsOther k n)) (sym (ne_eqb n from miss))
           (refl, shows_other n from k (λ c. mode_at (r.whole c) i) small sh miss (sh.reads k small ∙ ap read_mark m_k ∙ sym shown_read) (sh.writes k small ∙ ap write_mark m_k ∙ unwritten) alone),
     ))
@@ -128,6 +155,9 @@ tries slots id i mark p ps lt small long is free s r _ at fits =
     let k : ℕ = p.place in
     let m_k : mode_at (r.whole k) i ≡ Free = own_mode s r id i p ps at ∙ free in
     let sh = r.lawful.leases i lt in
+    let mine = own s r id p ps at in
+    let before = own_taken s r id p ps at small in
+    let modes : ℕ → LeaseMode = λ c. mode_at (r.whole c) i in
     let failed : Part = put_event (put_mode p i Trying) (Refused i n) in
     dite (dec_le 256 n)
     (λ ge. (
@@ -135,7 +165,10 @@ tries slots id i mark p ps lt small long is free s r _ at fits =
       keeps,
       tt,
       puts s r id i (bit_or n mark) p failed ps Trying (Refused i n) at lt long refl refl refl tt (λ w n. refl)
-          (λ m' others now. subst (λ (z : ℕ). Shows (bit_or n z) m') (sym is) (try_word n k (λ c. mode_at (r.whole c) i) m' small sh m_k others now)),
+          (λ m' others now. subst (λ (z : ℕ). Shows (bit_or n z) m') (sym is) (try_word n k modes m' small sh m_k others now))
+          (moves_stay r.whole k failed r.lawful.moves (ap (λ (u : Part). u.moves) (sym mine)))
+          (λ j low. (put_same p i Trying lt long is_reading (reads_by p.moves) (λ j low. (before j low).0) (sym (ap is_reading free)) j low, put_same p i Trying lt long is_writing (writes_by p.moves) (λ j low. (before j low).1) (sym (ap is_writing free)) j low))
+          refl refl,
       ((λ small'. absurd (omega arith)), λ _. (refl, shows_writer n k (λ c. mode_at (r.whole c) i) small sh ge (sh.writes k small ∙ ap write_mark m_k))),
     ))
     (λ not_ge. let low : n < 256 = lt_of_not-le not_ge in (
@@ -143,21 +176,52 @@ tries slots id i mark p ps lt small long is free s r _ at fits =
       keeps,
       tt,
       puts s r id i (bit_or n mark) p (put_lease p i Reading) ps Reading (Took i Reading) at lt long refl refl refl tt (λ w n. refl)
-          (λ m' others now. subst (λ (z : ℕ). Shows (bit_or n z) m') (sym is) (read_word n k (λ c. mode_at (r.whole c) i) m' small sh low others now)),
+          (λ m' others now. subst (λ (z : ℕ). Shows (bit_or n z) m') (sym is) (read_word n k modes m' small sh low others now))
+          (moves_go r.whole k (put_lease p i Reading) r.lawful.moves (moves.TookRead (k + 1) (i + 1)) small (took_read_is_own (k + 1) (i + 1))
+          (is_number k small, may_read r.whole r.lawful.moves r.lawful.taken k i lt (others_of_reader (bit_or n (2 ^ k)) k modes
+          (read_word n k modes (but modes k Reading) small sh low (λ d ne. but_other modes k d Reading ne) (but_same modes k k Reading refl)) small))
+          tt (ap (λ (u : Part). moves.TookRead (k + 1) (i + 1) ∷ u.moves) (sym mine)))
+          (λ j low. (put_also p i Reading lt long is_reading (reads_by p.moves) (λ j low. (before j low).0) refl j low, put_same p i Reading lt long is_writing (writes_by p.moves) (λ j low. (before j low).1) (sym (ap is_writing free)) j low))
+          (none_more (reply_count p.moves)) (none_more (digest_count p.moves)),
       ((λ _. refl), λ ge. absurd (omega arith)),
     ))
 
--- the own marks are taken out
-gives : (slots id i mask marks : ℕ) (p : Part) (ps : List Part) → i < 1024 → p.place < 8 → length p.modes ≡ 1024 → mask ≡ bit_not w64 marks → marks ≡ both_marks p.place → marks < 2 ^ 64
+-- the own marks are taken out: a lease is given back
+gives : (slots id i mask marks : ℕ) (p : Part) (ps : List Part) → i < 1024 → p.place < 8 → length p.modes ≡ 1024 → mask ≡ bit_not w64 marks → marks ≡ both_marks p.place → marks < 2 ^ 64 → CanGiveBack p (i + 1)
     → Allows IsRuled slots id (p ∷ ps, []) i (λ n. bit_and n mask) (TookOut (step slots i mask 0 none) (p ∷ ps, []))
-gives slots id i mask marks p ps lt small long is marks_are fits_own s r _ at fits = let n : ℕ = get_or s.words i 0 in (
-  put_free p i ∷ ps,
-  keeps,
-  tt,
-  puts s r id i (bit_and n mask) p (put_free p i) ps Free (Gave i) at lt long refl refl refl tt (λ w n. refl)
-      (λ m' others now. subst (λ (z : ℕ). Shows (bit_and n z) m') (sym is) (given_word n p.place marks (λ c. mode_at (r.whole c) i) m' small marks_are fits_own (r.lawful.leases i lt) others now)),
-  refl,
-)
+gives slots id i mask marks p ps lt small long is marks_are fits_own can s r _ at fits =
+    let n : ℕ = get_or s.words i 0 in
+    let mine = own s r id p ps at in
+    let before = own_taken s r id p ps at small in (
+      put_given p i ∷ ps,
+      keeps,
+      tt,
+      puts s r id i (bit_and n mask) p (put_given p i) ps Free (Gave i) at lt long refl refl refl tt (λ w n. refl)
+          (λ m' others now. subst (λ (z : ℕ). Shows (bit_and n z) m') (sym is) (given_word n p.place marks (λ c. mode_at (r.whole c) i) m' small marks_are fits_own (r.lawful.leases i lt) others now))
+          (moves_go r.whole p.place (put_given p i) r.lawful.moves (moves.Gave (p.place + 1) (i + 1)) small (gave_is_own (p.place + 1) (i + 1)) (may_give r.whole r.lawful.moves p i small mine can) tt
+          (ap (λ (u : Part). moves.Gave (p.place + 1) (i + 1) ∷ u.moves) (sym mine)))
+          (λ j low. (put_without p i Free lt long is_reading (reads_by p.moves) (λ j low. (before j low).0) refl j low, put_without p i Free lt long is_writing (writes_by p.moves) (λ j low. (before j low).1) refl j low))
+          (none_more (reply_count p.moves)) (none_more (digest_count p.moves)),
+      refl,
+    )
+
+-- the mark of a failed try is taken out
+withdraws : (slots id i mask marks : ℕ) (p : Part) (ps : List Part) → i < 1024 → p.place < 8 → length p.modes ≡ 1024 → mask ≡ bit_not w64 marks → marks ≡ both_marks p.place → marks < 2 ^ 64 → mode_at p i ≡ Trying
+    → Allows IsRuled slots id (p ∷ ps, []) i (λ n. bit_and n mask) (Withdrew (step slots i mask 0 none) (p ∷ ps, []))
+withdraws slots id i mask marks p ps lt small long is marks_are fits_own tried s r _ at fits =
+    let n : ℕ = get_or s.words i 0 in
+    let mine = own s r id p ps at in
+    let before = own_taken s r id p ps at small in (
+      put_free p i ∷ ps,
+      keeps,
+      tt,
+      puts s r id i (bit_and n mask) p (put_free p i) ps Free (Gave i) at lt long refl refl refl tt (λ w n. refl)
+          (λ m' others now. subst (λ (z : ℕ). Shows (bit_and n z) m') (sym is) (given_word n p.place marks (λ c. mode_at (r.whole c) i) m' small marks_are fits_own (r.lawful.leases i lt) others now))
+          (moves_stay r.whole p.place (put_free p i) r.lawful.moves (ap (λ (u : Part). u.moves) (sym mine)))
+          (λ j low. (put_same p i Free lt long is_reading (reads_by p.moves) (λ j low. (before j low).0) (sym (ap is_reading tried)) j low, put_same p i Free lt long is_writing (writes_by p.moves) (λ j low. (before j low).1) (sym (ap is_writing tried)) j low))
+          refl refl,
+      refl,
+    )
 
 unwritten : (x : LeaseMode) → x ≢ Writing → write_mark x ≡ 0
 unwritten Free ne = refl
@@ -174,7 +238,7 @@ sees slots id i p ps lt small s r _ at fits =
       put_event p (Looked i n) ∷ ps,
       keeps,
       tt,
-      adds s r id i n p ps (Looked i n) at (λ j _. unchanged s i j) tt (λ w _ _. unchanged s i w),
+      adds s r id i n p ps (Looked i n) at (λ j _. unchanged s i j) tt (λ w _ _. unchanged s i w) (λ w _. unchanged s i w),
       (
         refl,
         (
@@ -203,7 +267,7 @@ asks slots id i bits p ps ge lt s r _ at fits = let n : ℕ = get_or s.words i 0
   keeps,
   tt,
   adds s r id i (bit_or n bits) p ps (Asked i bits) at (λ j small. get_or-set_other s.words i j (bit_or n bits) 0 (λ e. omega arith)) tt
-      (λ w _ _. one_word s.words i (bit_or n bits) w (λ z. bit_or z bits) (omega arith) refl),
+      (λ w _ _. one_word s.words i (bit_or n bits) w (λ z. bit_or z bits) (omega arith) refl) (λ w ge. get_or-set_other s.words i w (bit_or n bits) 0 (λ e. omega arith)),
   (refl, continues s r id p ps (Asked i bits) at tt),
 )
 
@@ -217,7 +281,7 @@ hears slots id i p ps ge lt mine s r _ at fits =
       keeps,
       tt,
       adds s r id i 0 p ps (Heard i n) at (λ j small. get_or-set_other s.words i j 0 0 (λ e. omega arith)) found
-          (λ w _ _. one_word s.words i 0 w (λ _. 0) (omega arith) refl),
+          (λ w _ _. one_word s.words i 0 w (λ _. 0) (omega arith) refl) (λ w ge. get_or-set_other s.words i w 0 0 (λ e. omega arith)),
       (refl, continues s r id p ps (Heard i n) at found),
     )
 
@@ -227,7 +291,7 @@ listens slots id i p ps ge lt s r _ at fits = let n : ℕ = get_or s.words i 0 i
   put_event p (Looked i n) ∷ ps,
   keeps,
   tt,
-  adds s r id i n p ps (Looked i n) at (λ j _. unchanged s i j) tt (λ w _ _. unchanged s i w),
+  adds s r id i n p ps (Looked i n) at (λ j _. unchanged s i j) tt (λ w _ _. unchanged s i w) (λ w _. unchanged s i w),
   (refl, (h.history, h.legal, h.listed p.place ∙ ap (λ (u : Part). u.events) (own s r id p ps at), h.waiting i ge lt)),
 )
 
@@ -242,9 +306,13 @@ module _ (slots id i : ℕ) (me : SeatState) (p : Part) (ps : List Part) (is : m
       → Allows IsRuled slots id me i (λ n. bit_or n mark) (Tried (step slots i mark 0 none) me)
   tries_at mark lt small long mark_is free = subst (λ (z : SeatState). Allows IsRuled slots id z i (λ n. bit_or n mark) (Tried (step slots i mark 0 none) z)) (sym is) (tries slots id i mark p ps lt small long mark_is free)
 
-  pub gives_at : (mask marks : ℕ) → i < 1024 → p.place < 8 → length p.modes ≡ 1024 → mask ≡ bit_not w64 marks → marks ≡ both_marks p.place → marks < 2 ^ 64
+  pub gives_at : (mask marks : ℕ) → i < 1024 → p.place < 8 → length p.modes ≡ 1024 → mask ≡ bit_not w64 marks → marks ≡ both_marks p.place → marks < 2 ^ 64 → CanGiveBack p (i + 1)
       → Allows IsRuled slots id me i (λ n. bit_and n mask) (TookOut (step slots i mask 0 none) me)
-  gives_at mask marks lt small long mask_is marks_are fits = subst (λ (z : SeatState). Allows IsRuled slots id z i (λ n. bit_and n mask) (TookOut (step slots i mask 0 none) z)) (sym is) (gives slots id i mask marks p ps lt small long mask_is marks_are fits)
+  gives_at mask marks lt small long mask_is marks_are fits can = subst (λ (z : SeatState). Allows IsRuled slots id z i (λ n. bit_and n mask) (TookOut (step slots i mask 0 none) z)) (sym is) (gives slots id i mask marks p ps lt small long mask_is marks_are fits can)
+
+  pub withdraws_at : (mask marks : ℕ) → i < 1024 → p.place < 8 → length p.modes ≡ 1024 → mask ≡ bit_not w64 marks → marks ≡ both_marks p.place → marks < 2 ^ 64 → mode_at p i ≡ Trying
+      → Allows IsRuled slots id me i (λ n. bit_and n mask) (Withdrew (step slots i mask 0 none) me)
+  withdraws_at mask marks lt small long mask_is marks_are fits tried = subst (λ (z : SeatState). Allows IsRuled slots id z i (λ n. bit_and n mask) (Withdrew (step slots i mask 0 none) z)) (sym is) (withdraws slots id i mask marks p ps lt small long mask_is marks_are fits tried)
 
   pub sees_at : i < 1024 → p.place < 8 → Allows IsRuled slots id me i (λ n. n) (Saw (step slots i 0 0 none) me)
   sees_at lt small = subst (λ (z : SeatState). Allows IsRuled slots id z i (λ n. n) (Saw (step slots i 0 0 none) z)) (sym is) (sees slots id i p ps lt small)

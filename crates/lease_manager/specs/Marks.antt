@@ -25,6 +25,20 @@ is_lease Reading = true
 is_lease Writing = true
 is_lease Trying = false
 
+-- whether it holds one for reading
+abbrev pub is_reading : LeaseMode → Bool
+is_reading Free = false
+is_reading Reading = true
+is_reading Writing = false
+is_reading Trying = false
+
+-- whether it holds the one for writing
+abbrev pub is_writing : LeaseMode → Bool
+is_writing Free = false
+is_writing Reading = false
+is_writing Writing = true
+is_writing Trying = false
+
 -- two clients may stand so to one inode: where one writes, the other holds nothing
 abbrev pub MayMeet : LeaseMode → LeaseMode → Type 0
 MayMeet x y = (x ≡ Writing → is_lease y ≡ false) × (y ≡ Writing → is_lease x ≡ false)

@@ -1,12 +1,14 @@
--- One client's part of what seats carry.
-use Rattle.std.specs.Prelude.{◌≡◌, ◌≢◌, ℕ, ◌<◌, List, [], ◌∷◌, slice_index_or, slice_set, replicate}
+-- One participant's part of what seats carry.
+use Rattle.std.specs.Prelude.{◌≡◌, ◌≢◌, ℕ, zero, suc, ◌+◌, ◌<◌, List, [], ◌∷◌, ◌++◌, slice_index_or, slice_set, replicate}
 use Rattle.lease_manager.specs.declared.view.LeaseMode.{LeaseMode}
 use Rattle.lease_manager.specs.declared.view.LeaseMode.TheVariants.{Free, Trying}
 use Rattle.lease_manager.specs.declared.view.Event.{Event}
 use Rattle.lease_manager.specs.declared.view.Event.TheVariants.{Took, Gave}
 use Rattle.lease_manager.specs.declared.view.Part.{Part}
+use Rattle.world_history.specs.declared.moves.Move.TheVariants as moves
 use Rattle.lease_manager.specs.Marks.{MayMeet}
 use Rattle.lease_manager.specs.History.{Entry, steps_by, unheard, MayFollow, IsHistory}
+use Rattle.lease_manager.specs.Said.{taking}
 
 abbrev pub place_of : Part → ℕ
 place_of p = p.place
@@ -25,15 +27,19 @@ put_event p e = record p { events = e ∷ p.events }
 
 -- the part, which took this lease of the word i, or raised its lease to it
 abbrev pub put_lease : Part → ℕ → LeaseMode → Part
-put_lease p i mode = put_event (put_mode p i mode) (Took i mode)
+put_lease p i mode = record (put_event (put_mode p i mode) (Took i mode)) { moves = taking (p.place + 1) (i + 1) mode ++ p.moves }
 
 -- the part, which took its marks out of the word i
 abbrev pub put_free : Part → ℕ → Part
 put_free p i = put_event (put_mode p i Free) (Gave i)
 
--- the part of the client at place k that holds nothing and has made no step
+-- the part, which gave its lease of the word i back
+abbrev pub put_given : Part → ℕ → Part
+put_given p i = record (put_free p i) { moves = moves.Gave (p.place + 1) (i + 1) ∷ p.moves }
+
+-- the part of place k that holds nothing and has done nothing
 abbrev pub blank : ℕ → Part
-blank k = record { place = k; modes = replicate 1024 Free; events = [] }
+blank k = record { place = k; modes = replicate 1024 Free; events = []; moves = [] }
 
 -- no failed try is being taken out
 abbrev pub IsSettled : Part → Type 0
@@ -52,9 +58,14 @@ abbrev pub other_parts : List Part → List Part
 other_parts [] = []
 other_parts (p ∷ ps) = ps
 
--- all clients, with nothing held
+-- those of n clients from the place k on, each with its region's behind it, and then the kernel's
+abbrev pub blanks_from : ℕ → ℕ → List Part
+blanks_from k zero = blank 16 ∷ []
+blanks_from k (suc n) = blank k ∷ blank (8 + k) ∷ blanks_from (suc k) n
+
+-- those of all clients
 abbrev pub blanks : List Part
-blanks = blank 0 ∷ blank 1 ∷ blank 2 ∷ blank 3 ∷ blank 4 ∷ blank 5 ∷ blank 6 ∷ blank 7 ∷ []
+blanks = blanks_from 0 8
 
 -- these are two clients, and of each inode one writes and the other holds nothing, or neither writes
 abbrev pub AreCompatible : Part → Part → Type 0

@@ -5,23 +5,10 @@ use Rattle.log_record.specs.file_graph.Graph.{is_among}
 use Rattle.log_record.specs.file_graph.Numbers.{is_inode}
 use Rattle.lease_manager.specs.declared.view.LeaseMode.{LeaseMode}
 use Rattle.lease_manager.specs.declared.view.LeaseMode.TheVariants.{Free, Reading, Writing, Trying}
+use Rattle.lease_manager.specs.Marks.{is_reading, is_writing}
 use Rattle.lease_manager.specs.Passes.{PassView, lease_of, without_lease}
 
--- whether a lease is for reading
-abbrev pub is_reading : LeaseMode → Bool
-is_reading Free = false
-is_reading Reading = true
-is_reading Writing = false
-is_reading Trying = false
-
--- whether it is for writing
-abbrev pub is_writing : LeaseMode → Bool
-is_writing Free = false
-is_writing Reading = false
-is_writing Writing = true
-is_writing Trying = false
-
--- whether it is held
+-- whether a lease is held
 abbrev pub is_held : LeaseMode → Bool
 is_held Free = false
 is_held Reading = true

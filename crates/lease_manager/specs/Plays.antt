@@ -1,12 +1,18 @@
 -- What each kind of step ensures: the seat after it, from the seat before it and the number that it found.
-use Rattle.std.specs.Prelude.{◌≡◌, ℕ, ◌<◌, ◌≤◌, ◌==◌, List, [], ◌∷◌, MatchBool}
+use Rattle.std.specs.Prelude.{◌≡◌, ℕ, ◌+◌, ◌<◌, ◌≤◌, ◌==◌, List, [], ◌∷◌, map, MatchBool}
 use Rattle.atomic_table.specs.Table.{Step}
+use Rattle.posix_calls.specs.Run.{Turn}
+use Rattle.world_history.specs.declared.moves.Move.{Move}
+use Rattle.world_history.specs.declared.moves.Move.TheVariants as moves
+use Rattle.world_history.specs.Configuration.{plain}
+use Rattle.world_history.specs.Together.{Every, HasTurnsOf}
 use Rattle.lease_manager.specs.declared.view.LeaseMode.TheVariants.{Reading, Writing, Trying}
 use Rattle.lease_manager.specs.declared.view.Event.TheVariants.{Refused, Looked, Asked, Heard}
 use Rattle.lease_manager.specs.declared.view.Part.{Part}
 use Rattle.lease_manager.specs.Marks.{ShowsOther, ShowsWriter, ShowsOwn}
 use Rattle.seat_book.specs.Book.{HoldsPart}
-use Rattle.lease_manager.specs.Parts.{mode_at, put_mode, put_event, put_lease, put_free, own_part, other_parts, AreCompatible, Continues, FindsUnheard, ShareHistory}
+use Rattle.lease_manager.specs.Parts.{mode_at, put_mode, put_event, put_lease, put_free, put_given, own_part, other_parts, AreCompatible, Continues, FindsUnheard, ShareHistory}
+use Rattle.lease_manager.specs.Said.{AreTogether, listing, with_move}
 use Rattle.lease_manager.specs.Law.{SeatState}
 
 -- the seat with another part of its own client
@@ -25,9 +31,13 @@ Tried st me found me' =
     (found < 256 → me' ≡ with_own me (put_lease (own_part me.0) st.word Reading))
     × (256 ≤ found → (me' ≡ with_own me (put_event (put_mode (own_part me.0) st.word Trying) (Refused st.word found))) × ShowsWriter (own_part me.0).place found)
 
--- the own marks were taken out
+-- the own marks were taken out: a lease was given back
 abbrev pub TookOut : Step (Unit {0}) → SeatState → ℕ → SeatState → Type 0
-TookOut st me found me' = me' ≡ with_own me (put_free (own_part me.0) st.word)
+TookOut st me found me' = me' ≡ with_own me (put_given (own_part me.0) st.word)
+
+-- they were taken out after a failed try, which was no lease
+abbrev pub Withdrew : Step (Unit {0}) → SeatState → ℕ → SeatState → Type 0
+Withdrew st me found me' = me' ≡ with_own me (put_free (own_part me.0) st.word)
 
 -- a lease word was read: it shows the own marks
 abbrev pub Saw : Step (Unit {0}) → SeatState → ℕ → SeatState → Type 0
@@ -50,6 +60,20 @@ abbrev pub AllCompatible : List Part → Type 0
 AllCompatible [] = Unit {0}
 AllCompatible (p ∷ ps) = ((q : Part) → HoldsPart ps q → p.place < 8 → q.place < 8 → AreCompatible p q) × AllCompatible ps
 
--- nothing changed, and the clients on this seat are compatible and have one history
-abbrev pub Met : Step (Unit {0}) → SeatState → ℕ → SeatState → Type 0
-Met st me found me' = (me' ≡ me) × AllCompatible me.0 × ShareHistory (HoldsPart me.0)
+-- a move was said: each part on this seat that takes part in it lists it, and the parts list moves of one history
+abbrev pub HasSaid : Move → Step (Unit {0}) → SeatState → ℕ → SeatState → Type 0
+HasSaid m st me found me' = (me' ≡ (map (with_move m) me.0, me.1)) × AreTogether (map (with_move m) me.0)
+
+-- the clients of these parts, at places below 8
+abbrev pub numbers : List Part → List ℕ
+numbers = map (λ p. p.place + 1)
+
+-- the move that they met and saw these turns
+abbrev pub meeting : List Part → List Turn → Move
+meeting parts seen = moves.Met (numbers parts) seen
+
+-- The clients on this seat met. They are compatible and have one history, and they saw turns in which those of each are those of its list, behind what it
+-- had seen before.
+abbrev pub HaveMet : Step (Unit {0}) → SeatState → ℕ → SeatState → Type 0
+HaveMet st me found me' =
+    (seen : List Turn) × HasSaid (meeting me.0 seen) st me found me' × Every (HasTurnsOf plain seen) (map listing me.0) × AllCompatible me.0 × ShareHistory (HoldsPart me.0)

@@ -13,8 +13,12 @@ pub const CLIENTS: u32 = MAX_CLIENTS;
 /// A client is asked by rows of 64 inodes, from 0 on.
 pub const ROWS: u32 = 16;
 
-/// A lease word for each inode, and then the asked words, a row of 16 for each client.
-pub const WORDS: usize = 1152;
+/// A lease word for each inode, then the asked words, a row of 16 for each client, and then two words for each client: how many
+/// calls of it were acknowledged, and how many records of it digested.
+pub const WORDS: usize = 1168;
+
+const FIRST_REPLY_WORD: u32 = 1152;
+const FIRST_DIGEST_WORD: u32 = 1160;
 
 // Below this number a lease word shows no write mark.
 pub(crate) const LOWEST_WRITE_MARK: u64 = 256;
@@ -61,7 +65,23 @@ pub(crate) fn word_of_row(place: u32, row: u32) -> usize
     (INODES + ROWS * place + row) as usize
 }
 
-// The bit of an inode in that word.
+// The place of the word that counts the acknowledged calls of the client at a place.
+pub(crate) fn reply_word(place: u32) -> usize
+    requires { place < 8 }
+    ensures { result ≡ 1152 + place }
+{
+    (FIRST_REPLY_WORD + place) as usize
+}
+
+// The place of the word that counts its digested records.
+pub(crate) fn digest_word(place: u32) -> usize
+    requires { place < 8 }
+    ensures { result ≡ 1160 + place }
+{
+    (FIRST_DIGEST_WORD + place) as usize
+}
+
+// The bit of an inode in the word in which a client is asked for it.
 pub(crate) fn bit_of_asking(ino: u32) -> u64
     requires { HasWord ino }
     ensures { result ≡ asked_bit ino }

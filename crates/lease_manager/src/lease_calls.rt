@@ -3,11 +3,12 @@ ghost use Rattle.std.specs.Prelude.{◌≡◌, ◌≢◌, ◌+◌, IfErr, OnOk, 
 ghost use Rattle.lease_manager.specs.declared.view.LeaseMode.TheVariants.{Free, Reading, Writing};
 ghost use Rattle.lease_manager.specs.Words.{HasWord};
 ghost use Rattle.lease_manager.specs.Marks.{ShowsOther, ShowsWriter};
+ghost use Rattle.lease_manager.specs.Said.{CanGiveBack};
 ghost use Rattle.lease_manager.specs.Passes.{lease_of, records_of, steps_of, with_lease, without_lease, refused_at, tried_at};
 
 use crate::layout::{LOWEST_WRITE_MARK, bit, lease_word, marks};
 use crate::pass::{Busy, Pass};
-use crate::rule::{Gives, Takes, Tries};
+use crate::rule::{Gives, Takes, Tries, Withdraws};
 use crate::table::Leases;
 use crate::view::LeaseMode;
 
@@ -35,7 +36,7 @@ impl Leases {
             return Ok(());
         }
         let others = !marks(pass.place);
-        shared.fetch_and::<Gives>(&mut pass.seat, word, others);
+        shared.fetch_and::<Withdraws>(&mut pass.seat, word, others);
         Err(Busy(found))
     }
 
@@ -86,12 +87,14 @@ impl Leases {
         Ok(())
     }
 
-    /// Gives a lease back. A write lease may go only once the pass counts no record on the inode.
+    /// Gives a lease back. A write lease may go only once the pass counts no record on the inode, and any only while the moves of
+    /// the pass have no begun call, and no record on it in a region that is not back.
     pub fn give(&self, pass: &mut Pass, ino: u32)
         requires table { pass.old.table ≡ self.now }
         requires inode { HasWord ino }
         requires held { lease_of pass.old ino ≢ Free }
         requires digested { lease_of pass.old ino ≡ Writing → records_of pass.old ino ≡ 0 }
+        requires clean { CanGiveBack pass.old.part ino }
         ensures given { pass.new ≡ without_lease pass.old ino }
         ensures lease { lease_of pass.new ino ≡ Free }
         ensures step { steps_of pass.new ≡ steps_of pass.old + 1 }

@@ -6,6 +6,7 @@ ghost use Rattle.lease_manager.specs.Parts.{blank, own_part, other_parts, IsSett
 ghost use Rattle.lease_manager.specs.Passes.{PassView, fresh, client_of, lease_of, records_of, AreHeld, CountsHeld};
 
 use crate::layout::INODES;
+use crate::region_pass::RegionPass;
 use crate::view::{LeaseMode, View};
 use atomic_table::Seat;
 use std::alloc::{AllocError, Global};
@@ -22,15 +23,25 @@ pub struct Pass {
     pub(crate) place: u32,
     pub(crate) modes: Vec<LeaseMode>,
     pub(crate) counts: Vec<u64>,
+    // The pass of the client's region, while that is not away.
+    pub(crate) region: Option<RegionPass>,
 }
 
 impl Model for Pass {
+    ghost use Rattle.std.specs.Prelude.{◌≡◌, ◌<◌, [], ◌∷◌, length, option_map, Some};
+    ghost use Rattle.std.specs.Coded.{codes};
+    ghost use Rattle.lease_manager.specs.Parts.{own_part, other_parts, IsSettled};
+    ghost use Rattle.lease_manager.specs.Passes.{PassView, PartView, AreHeld, IsRegionOf};
+    ghost use Rattle.lease_manager.specs.contracts.view.Part as part;
+
     ghost Value = { PassView };
 
-    ghost view = { λ p. record { table = p.seat.table_id; part = own_part p.seat.me.0; records = p.counts.items } };
+    ghost coded = { Prim.hlevel (codes, part.the_row.coded) };
+
+    ghost view = { λ p. record { table = p.seat.table_id; part = own_part p.seat.me.0; records = p.counts.items; region = option_map (λ (r : PartView). r.part) p.region } };
 
     // The client's own part is the first that its seat carries, and now the only one. The modes at run time are those of
-    // the part, one for each inode, and no failed try is being taken out. What has records is held for writing.
+    // the part, one for each inode, and no failed try is being taken out. What has records is held for writing. The region's pass is of this client.
     ghost invariant = { λ p. (p.seat.me ≡ (own_part p.seat.me.0 ∷ other_parts p.seat.me.0, []))
         × (other_parts p.seat.me.0 ≡ [])
         × ((own_part p.seat.me.0).place ≡ p.place)
@@ -39,13 +50,15 @@ impl Model for Pass {
         × (length p.modes.items ≡ 1024)
         × (length p.counts.items ≡ 1024)
         × IsSettled (own_part p.seat.me.0)
-        × AreHeld p.modes.items p.counts.items };
+        × AreHeld p.modes.items p.counts.items
+        × ((r : PartView) → p.region ≡ Some r → IsRegionOf p.seat.table_id p.place r) };
 }
 
 impl Pass {
     // The pass of one client that holds nothing.
-    pub(crate) fn new(alloc: Global, seat: Seat<(), View>, place: u32) -> Result<Pass, AllocError>
-        requires { (seat.me ≡ (blank place ∷ [], [])) × (place < 8) }
+    pub(crate) fn new(alloc: Global, seat: Seat<(), View>, region: Seat<(), View>, place: u32) -> Result<Pass, AllocError>
+        requires client { (seat.me ≡ (blank place ∷ [], [])) × (place < 8) }
+        requires region { (region.table_id ≡ seat.table_id) × (region.me ≡ (blank (8 + place) ∷ [], [])) }
         ensures { IfOk result (λ p. p ≡ fresh seat.table_id place) }
     {
         let modes = vec![in alloc; LeaseMode::Free; INODES as usize]?;
@@ -55,6 +68,7 @@ impl Pass {
             place,
             modes,
             counts,
+            region: Some(RegionPass::new(region, place)),
         })
     }
 

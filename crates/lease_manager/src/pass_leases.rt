@@ -3,7 +3,8 @@ ghost use Rattle.std.specs.Prelude.{◌≡◌, ◌∷◌, ◌++◌, [], true, fa
 ghost use Rattle.log_record.specs.file_graph.Numbers.{is_inode};
 ghost use Rattle.lease_manager.specs.Words.{HasWord};
 ghost use Rattle.lease_manager.specs.declared.layout.TheConstants.{INODES};
-ghost use Rattle.lease_manager.specs.PassLeases.{AreWritten, is_reading, is_writing, reads, writes, written_up_to};
+ghost use Rattle.lease_manager.specs.Marks.{is_reading, is_writing};
+ghost use Rattle.lease_manager.specs.PassLeases.{AreWritten, reads, writes, written_up_to};
 
 use crate::{INODES, LeaseMode, Pass};
 use posix_calls::MAX_INODE;

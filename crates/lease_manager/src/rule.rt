@@ -1,9 +1,11 @@
 // The table's rule, and what each kind of step ensures. These types have no values.
 use crate::view::View;
 use atomic_table::{Join, Play, Split, TableRule};
+use std::marker::{Brand, PhantomData};
 
 /// Each lease word shows the marks of the clients' modes, and no lease stands beside another's write lease. Each asked word
-/// has what was asked since it was last heard, in one history of all steps.
+/// has what was asked since it was last heard, in one history of all steps. There is one history of all moves, each of which may
+/// follow those before it; it has the leases that the modes are, and two words count what it acknowledges and digests.
 pub struct Rule;
 
 impl TableRule<(), View, ()> for Rule {
@@ -33,13 +35,22 @@ impl Play<(), View> for Tries {
     ghost then = { Tried };
 }
 
-/// The own marks are taken out.
+/// The own marks are taken out: a lease is given back.
 pub struct Gives;
 
 impl Play<(), View> for Gives {
     ghost use Rattle.lease_manager.specs.Plays.{TookOut};
 
     ghost then = { TookOut };
+}
+
+/// The own mark is taken out after a failed try.
+pub struct Withdraws;
+
+impl Play<(), View> for Withdraws {
+    ghost use Rattle.lease_manager.specs.Plays.{Withdrew};
+
+    ghost then = { Withdrew };
 }
 
 /// A look at a lease word.
@@ -78,13 +89,37 @@ impl Play<(), View> for Listens {
     ghost then = { Listened };
 }
 
-/// A look at a moment where one seat carries several clients.
+/// Which move a step says.
+pub trait Said {
+    ghost use Rattle.world_history.specs.declared.moves.Move.{Move};
+
+    ghost said: { Move };
+}
+
+impl Said for Brand {
+    ghost use Rattle.world_history.specs.declared.moves.Move.TheVariants.{Rejoined};
+
+    ghost said = { Rejoined };
+}
+
+/// A move is said: all that take part in it are on this seat.
+pub struct Says<J: Said> {
+    of: PhantomData<J>,
+}
+
+impl<J: Said> Play<(), View> for Says<J> {
+    ghost use Rattle.lease_manager.specs.Plays.{HasSaid};
+
+    ghost then = { HasSaid J.said };
+}
+
+/// Clients on one seat meet.
 pub struct Meets;
 
 impl Play<(), View> for Meets {
-    ghost use Rattle.lease_manager.specs.Plays.{Met};
+    ghost use Rattle.lease_manager.specs.Plays.{HaveMet};
 
-    ghost then = { Met };
+    ghost then = { HaveMet };
 }
 
 /// The first part stays, and the others go to the new seat.

@@ -1,5 +1,6 @@
 // What a seat of the table carries. It exists in proofs alone: no value of a `Part` or an `Event` is made.
 use std::collections::LinkedList;
+use world_history::Move;
 
 /// How one client stands to one inode.
 #[derive(Drop, Clone, Copy, PartialEq, Eq)]
@@ -11,7 +12,7 @@ pub enum LeaseMode {
     Trying,
 }
 
-/// A step of a client on one word, with the place of that word. Each step is one event.
+/// A step of a client on one word of a lease or of what it is asked, with the place of that word. Each such step is one event.
 pub enum Event {
     /// A lease was taken, or a read lease raised to the write lease: the client stands so from then on.
     Took(u64, LeaseMode),
@@ -27,15 +28,17 @@ pub enum Event {
     Heard(u64, u64),
 }
 
-/// One client's part: how it stands to each inode, and which steps it has made so far.
+/// What one participant knows: a client how it stands to each inode and which steps it has made, and each the moves in which it took part.
 pub struct Part {
-    /// The client's number less 1.
+    /// A client's number less 1, 7 more than the client's of a region, and 16 of the kernel.
     pub place: u64,
     /// Inode i stands at i - 1.
     pub modes: LinkedList<LeaseMode>,
     /// The newest stands first.
     pub events: LinkedList<Event>,
+    /// The newest stands first.
+    pub moves: LinkedList<Move>,
 }
 
-/// A seat carries parts, mostly one. Its client's own part stands first.
+/// A seat carries parts, mostly one. Its participant's own part stands first.
 pub type View = LinkedList<Part>;

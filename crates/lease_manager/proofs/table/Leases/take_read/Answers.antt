@@ -1,12 +1,13 @@
-use Rattle.std.proofs.Common.{◌≡◌, ℕ, ◌^◌, ◌<◌, List, ◌∷◌, arith, length, length-set, refl, sym, ap, ◌∙◌, subst}
-use Rattle.lease_manager.specs.declared.view.LeaseMode.TheVariants.{Trying}
+use Rattle.std.proofs.Common.{◌≡◌, ℕ, ◌^◌, ◌<◌, List, ◌∷◌, arith, length, length-set, get_or-set_same, refl, sym, ap, ◌∙◌, subst}
+use Rattle.std.specs.Prelude.{option_map}
+use Rattle.lease_manager.specs.declared.view.LeaseMode.TheVariants.{Free, Trying}
 use Rattle.lease_manager.specs.declared.view.Event.TheVariants.{Refused, Gave}
 use Rattle.lease_manager.specs.declared.view.Part.{Part}
 use Rattle.lease_manager.specs.Words.{both_marks}
 use Rattle.lease_manager.specs.Law.{SeatState}
 use Rattle.lease_manager.specs.Parts.{mode_at, put_mode, put_event, put_free, own_part, other_parts, IsSettled}
-use Rattle.lease_manager.specs.Passes.{PassView, lease_of, with_event}
-use Rattle.lease_manager.proofs.Steps.{tries_at, gives_at}
+use Rattle.lease_manager.specs.Passes.{PartView, PassView, lease_of, with_event}
+use Rattle.lease_manager.proofs.Steps.{tries_at, withdraws_at}
 use Rattle.lease_manager.proofs.PassFacts.{tried_in_vain}
 use Rattle.lease_manager.proofs.table.Leases.take_read.Goals as goal
 
@@ -38,9 +39,10 @@ fetch_and-requires c =
     let bare = ap (λ (m : SeatState). m.1) i.0 in (
       c.fetch_or-found.ensures.0 ∙ ap (λ (p : PassView). p.table) c.pass.view_is ∙ c.requires.table ∙ sym c.words-shared.ensures.0,
       omega arith,
-      gives_at _ _ _ c.fetch_or-found.new.seat.me trying (other_parts me.0) (tried.0 ∙ ap (λ (l : List (ℕ × Unit {0})). (trying ∷ other_parts me.0, l)) bare) _ c.marks-others.result (omega arith)
+      withdraws_at _ _ _ c.fetch_or-found.new.seat.me trying (other_parts me.0) (tried.0 ∙ ap (λ (l : List (ℕ × Unit {0})). (trying ∷ other_parts me.0, l)) bare) _ c.marks-others.result (omega arith)
           (subst (λ (k : ℕ). k < 8) (sym i.2) i.3) (length-set _ _ _ ∙ ap length i.4 ∙ i.5) refl
-          (c.marks-others.ensures ∙ ap both_marks (sym i.2)) c.marks-others.type_inv,
+          (c.marks-others.ensures ∙ ap both_marks (sym i.2)) c.marks-others.type_inv
+          (get_or-set_same (own_part me.0).modes at Trying Free (let long : length (own_part me.0).modes ≡ 1024 = ap length i.4 ∙ i.5 in omega (arith, long, word, inode.1))),
     )
 
 pub returns-clause-refused : goal.returns-clause-refused
@@ -54,8 +56,8 @@ returns-clause-refused c =
     let gave = c.fetch_and.ensures in
     let table = gave.0 ∙ c.fetch_or-found.ensures.0 in
     let own = ap (λ (m : SeatState). own_part m.0) gave.2 ∙ ap (λ (m : SeatState). put_free (own_part m.0) at) tried.0 ∙ tried_in_vain (own_part me.0) at (Refused at found) free in
-    let same : ◌≡◌ {A = PassView} (record { table = c.fetch_and.new.seat.table_id; part = own_part c.fetch_and.new.seat.me.0; records = c.pass.inside.counts.items }) (record { table = c.pass.inside.seat.table_id; part = put_event (put_event (own_part me.0) (Refused at found)) (Gave at); records = c.pass.inside.counts.items })
-    = λ k. record { table = table k; part = own k; records = c.pass.inside.counts.items } in
+    let same : ◌≡◌ {A = PassView} (record { table = c.fetch_and.new.seat.table_id; part = own_part c.fetch_and.new.seat.me.0; records = c.pass.inside.counts.items; region = option_map (λ (r : PartView). r.part) c.pass.inside.region }) (record { table = c.pass.inside.seat.table_id; part = put_event (put_event (own_part me.0) (Refused at found)) (Gave at); records = c.pass.inside.counts.items; region = option_map (λ (r : PartView). r.part) c.pass.inside.region })
+    = λ k. record { table = table k; part = own k; records = c.pass.inside.counts.items; region = option_map (λ (r : PartView). r.part) c.pass.inside.region } in
     same ∙ (λ k. with_event (with_event (c.pass.view_is k) (Refused (word k) found)) (Gave (word k)))
 
 pub invariant_of-pass-2 : goal.invariant_of-pass-2
@@ -84,4 +86,5 @@ invariant_of-pass-2 c =
       i.6,
       subst IsSettled (sym own) i.7,
       i.8,
+      λ r is. record { table = (i.9 r is).table ∙ sym (gave.0 ∙ c.fetch_or-found.ensures.0); place = (i.9 r is).place },
     )
