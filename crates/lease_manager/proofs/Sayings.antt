@@ -9,7 +9,7 @@ use mathlib.Core.Logic.{dite}
 use mathlib.Core.Option.{none, some}
 use native.Mathlib.Decide.{ℕ_discrete}
 use lib.ListN.{get_elem?}
-use Rattle.atomic_table.specs.Table.{step, keeps, stepped, Allows}
+use Rattle.atomic_table.specs.Table.{Step, step, keeps, stepped, Allows}
 use Rattle.posix_calls.specs.Run.{Turn}
 use Rattle.world_history.specs.world_invariant.file_graph.Graph.{is_among}
 use Rattle.world_history.specs.log_record.declared.format.Record.{Record}
@@ -24,10 +24,10 @@ use Rattle.world_history.specs.Together.{Every, Has, HasClients, HasTurnsOf, Lis
 use Rattle.world_history.proofs.Together.{every, has_turns}
 use Rattle.lease_manager.specs.declared.view.Part.{Part}
 use Rattle.lease_manager.specs.Marks.{Shows, is_reading, is_writing}
-use Rattle.lease_manager.specs.Parts.{place_of, mode_at}
+use Rattle.lease_manager.specs.Parts.{place_of, mode_at, first_part, other_parts, AreCompatible, ShareHistory}
 use Rattle.lease_manager.specs.Said.{ArePlaced, AreTogether, CanSay, IsAboard, IsDigestOf, IsReplyOf, IsSilent, digest_count, digested_in, is_of_lease, listing, replies_in, reply_count, with_move}
 use Rattle.lease_manager.specs.Law.{CountLaw, IsRuled, Law, MoveLaw, SeatState, TableState}
-use Rattle.lease_manager.specs.Plays.{HasSaid, HaveMet, meeting, numbers}
+use Rattle.lease_manager.specs.Plays.{HasSaid, HaveMet, HaveMetApart, having_met, meeting, numbers}
 use Rattle.lease_manager.proofs.OneWord.{same_shows}
 use Rattle.lease_manager.proofs.Places.{client_at, next_equal, own_takes, place_is, region_at, reply_is_own}
 use Rattle.lease_manager.proofs.MoveSteps.{none_more, reads_by, writes_by}
@@ -382,11 +382,17 @@ turns_of_all : (h : List Move) → IsHistory plain h → (parts : List PartMoves
 turns_of_all h legal parts all = every (Lists h) (HasTurnsOf plain (turns_in plain h)) (λ p listed. subst (Has plain (turns_in plain h) p.participant) listed (has_turns plain h legal p.participant)) parts all
 
 pub meets : (slots id : ℕ) (me : SeatState) → me.1 ≡ [] → ArePlaced me.0 → Allows IsRuled slots id me 0 (λ n. n) (HaveMet (step slots 0 0 0 none) me)
-meets slots id me bare placed = tells_so slots id 0 me (λ n. n) (λ n me'. (h : List Move) × HaveMet (step slots 0 0 0 none) me n me') (HaveMet (step slots 0 0 0 none) me) (λ n me' x. x.1)
+meets slots id me bare placed = tells_so slots id 0 me (λ n. n) (λ n me'. (h : List Move) × HaveMet (step slots 0 0 0 none) me 0 me') (HaveMet (step slots 0 0 0 none) me) (λ n me' x. let y = x.1 in record { seen = y.seen; said = y.said; together = y.together; behind = y.behind; compatible = y.compatible; steps = y.steps })
     (makes slots id 0 me (λ n. n) (λ h. meeting me.0 (turns_in plain h)) (λ h me'. HaveMet (step slots 0 0 0 none) me 0 me') bare placed (λ h. met_aboard me.0 (turns_in plain h)) (λ h legal of. (tt, refl)) (λ h. refl) (λ words w lt. back words 0 w)
     (λ words whole h apart there wide l. counts_stay (meeting me.0 (turns_in plain h)) me.0 whole apart there (met_aboard me.0 (turns_in plain h)) words (set words 0 (get_or words 0 0)) refl refl (back words 0) l)
-    (λ s r apart there of one. let h : List Move = r.lawful.moves.history in
-        (turns_in plain h, (refl, one), turns_of_all h r.lawful.moves.legal (map listing me.0) of, compatible s r me.0 apart there, (r.lawful.steps.history, r.lawful.steps.legal, λ p has. r.lawful.steps.listed p.place ∙ ap (λ (u : Part). u.events) (there p has)))))
+    (λ s r apart there of one. let h : List Move = r.lawful.moves.history in record {
+      seen = turns_in plain h;
+      said = refl;
+      together = one;
+      behind = turns_of_all h r.lawful.moves.legal (map listing me.0) of;
+      compatible = compatible s r me.0 apart there;
+      steps = (r.lawful.steps.history, r.lawful.steps.legal, λ p has. r.lawful.steps.listed p.place ∙ ap (λ (u : Part). u.events) (there p has));
+    }))
 
 -- ---- what a meeting leaves
 
@@ -402,7 +408,7 @@ among_parts (q ∷ qs) p h = ⊎_elim
     h
 
 -- a client among those that met lists the meeting
-pub met_part : (parts : List Part) (seen : List Turn) (p : Part) → HoldsPart parts p → p.place < 8 → with_move (meeting parts seen) p ≡ record p { moves = meeting parts seen ∷ p.moves }
+met_part : (parts : List Part) (seen : List Turn) (p : Part) → HoldsPart parts p → p.place < 8 → with_move (meeting parts seen) p ≡ having_met parts seen p
 met_part parts seen p has lt = ap (λ b. record p { moves = cond b (meeting parts seen ∷ p.moves) p.moves }) (ap (λ q. takes_part q (meeting parts seen)) (client_at p.place lt)
     ∙ ap (λ b. ((p.place + 1 == 0 && false) || b) || false) (among_parts parts p has) ∙ only_true (p.place + 1 == 0))
   where
@@ -417,5 +423,82 @@ one_placed p lt q has = ⊎_elim (λ (e : p ≡ q). subst (λ (u : Part). u.plac
 pub two_placed : (p q : Part) → p.place < 17 → q.place < 17 → ArePlaced (p ∷ q ∷ [])
 two_placed p q lt lt' r has = ⊎_elim (λ (e : p ≡ r). subst (λ (u : Part). u.place < 17) e lt) (λ (t : HoldsPart (q ∷ []) r). one_placed q lt' r t) has
 
-pub met_turns : (seen : List Turn) (p : Part) → p.place < 8 → HasTurnsOf plain seen (listing p) → HasClients plain seen (p.place + 1) p.moves
+met_turns : (seen : List Turn) (p : Part) → p.place < 8 → HasTurnsOf plain seen (listing p) → HasClients plain seen (p.place + 1) p.moves
 met_turns seen p lt has = subst (λ q. Has plain seen q p.moves) (client_at p.place lt) has
+
+-- who acknowledges a call is its client alone
+pub reply_aboard : (p : Part) (k : ℕ) (m : Move) → p.place ≡ k → k < 8 → IsReplyOf (k + 1) m → IsAboard (p ∷ []) m
+reply_aboard p k m at small is j lt takes = elim (eqb_tells j k) [
+  | inl same ↦ (p, inl refl, at ∙ sym same.1)
+  | inr other ↦ absurd (true≢false (sym takes ∙ own_takes m k (reply_is_own (k + 1) m is.client is.one) small j lt ∙ other.0))
+]
+
+-- a digest is of its region and the kernel
+pub digest_aboard : (p q : Part) (k count : ℕ) (m : Move) → p.place ≡ 8 + k → k < 8 → q.place ≡ 16 → IsDigestOf (8 + k) count m → IsAboard (p ∷ q ∷ []) m
+digest_aboard p q k count m at small sixteen is j lt takes = elim (place_is j lt) [
+  | inl low ↦ absurd (true≢false (takes_d ∙ ap (λ q. takes_part q d) (client_at j low) ∙ none_here (j + 1 == k + 1)))
+  | inr past ↦ elim past [
+    | inl region ↦ elim (eqb_tells region.0 k) [
+      | inl same ↦ (p, inl refl, at ∙ ap (λ z. 8 + z) (sym same.1) ∙ sym region.2)
+      | inr other ↦ absurd (true≢false (takes_d ∙ ap (λ z. takes_part (participant_at z) d) region.2 ∙ ap (λ q. takes_part q d) (region_at region.0 region.1) ∙ only_region (region.0 + 1 == k + 1) ∙ next_equal region.0 k ∙ other.0))
+    ]
+    | inr kernel ↦ (q, inr (inl refl), sixteen ∙ sym kernel)
+  ]
+]
+  where
+    number : 8 + k - 7 ≡ k + 1
+    number = omega arith
+
+    d : Move
+    d = moves.Digested (k + 1) is.records
+
+    takes_d : true ≡ takes_part (participant_at j) d
+    takes_d = sym takes ∙ ap (takes_part (participant_at j)) (is.is ∙ ap (λ z. moves.Digested z is.records) number)
+
+    none_here : (b : Bool) → (((b && false) || false) || false) ≡ false
+    none_here true = refl
+    none_here false = refl
+
+    only_region : (b : Bool) → ((b && true) || false) ≡ b
+    only_region true = refl
+    only_region false = refl
+
+-- what a step tells of two clients on one seat
+module _ (st : Step (Unit {0})) (found : ℕ) (me me' : SeatState) (p q : Part) (joined : me ≡ (p ∷ q ∷ [], [])) (lp : p.place < 8) (lq : q.place < 8) (given : HaveMet st me found me') where
+  abbrev two : List Part
+  two = p ∷ q ∷ []
+
+  abbrev met : HaveMet st (two, []) found me'
+  met = subst (λ (z : SeatState). HaveMet st z found me') joined given
+
+  both_now : map (with_move (meeting two met.seen)) two ≡ having_met two met.seen p ∷ having_met two met.seen q ∷ []
+  both_now = λ t. met_part two met.seen p (inl refl) lp t ∷ met_part two met.seen q (inr (inl refl)) lq t ∷ []
+
+  now : me' ≡ (having_met two met.seen p ∷ having_met two met.seen q ∷ [], [])
+  now = met.said ∙ (λ t. (both_now t, []))
+
+  pub met_apart : (one other : SeatState) → one ≡ (first_part me'.0, me'.1) → other ≡ (other_parts me'.0, []) → (seen : List Turn) × HaveMetApart seen p q one other
+  met_apart one other first rest = (met.seen, record {
+    one_now = first ∙ (λ t. (first_part (now t).0, (now t).1));
+    other_now = rest ∙ (λ t. (other_parts (now t).0, []));
+    together = subst AreTogether both_now met.together;
+    one_behind = met_turns met.seen p lp met.behind.0;
+    other_behind = met_turns met.seen q lq met.behind.1.0;
+  })
+
+  pub met_leases : AreCompatible p q
+  met_leases = met.compatible.0 q (inl refl) lp lq
+
+  pub met_steps : ShareHistory (HoldsPart two)
+  met_steps = met.steps
+
+-- what a step that says a move leaves of two parts on one seat
+module _ (m : Move) (me me' : SeatState) (p q : Part) (joined : me ≡ (p ∷ q ∷ [], [])) (said : me' ≡ (map (with_move m) me.0, me.1)) where
+  pub first_said : (one : SeatState) → one ≡ (first_part me'.0, me'.1) → one ≡ (with_move m p ∷ [], [])
+  first_said one first = first ∙ (λ t. (first_part (said t).0, (said t).1)) ∙ (λ t. (first_part (map (with_move m) (joined t).0), (joined t).1))
+
+  pub other_said : (other : SeatState) → other ≡ (other_parts me'.0, []) → other ≡ (with_move m q ∷ [], [])
+  other_said other rest = rest ∙ (λ t. (other_parts (said t).0, [])) ∙ (λ t. (other_parts (map (with_move m) (joined t).0), []))
+
+  pub both_said : AreTogether (map (with_move m) me.0) → AreTogether (with_move m p ∷ with_move m q ∷ [])
+  both_said one = subst (λ (z : SeatState). AreTogether (map (with_move m) z.0)) joined one

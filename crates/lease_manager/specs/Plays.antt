@@ -5,7 +5,7 @@ use Rattle.posix_calls.specs.Run.{Turn}
 use Rattle.world_history.specs.declared.moves.Move.{Move}
 use Rattle.world_history.specs.declared.moves.Move.TheVariants as moves
 use Rattle.world_history.specs.Configuration.{plain}
-use Rattle.world_history.specs.Together.{Every, HasTurnsOf}
+use Rattle.world_history.specs.Together.{Every, HasClients, HasTurnsOf}
 use Rattle.lease_manager.specs.declared.view.LeaseMode.TheVariants.{Reading, Writing, Trying}
 use Rattle.lease_manager.specs.declared.view.Event.TheVariants.{Refused, Looked, Asked, Heard}
 use Rattle.lease_manager.specs.declared.view.Part.{Part}
@@ -72,8 +72,24 @@ numbers = map (λ p. p.place + 1)
 abbrev pub meeting : List Part → List Turn → Move
 meeting parts seen = moves.Met (numbers parts) seen
 
--- The clients on this seat met. They are compatible and have one history, and they saw turns in which those of each are those of its list, behind what it
--- had seen before.
-abbrev pub HaveMet : Step (Unit {0}) → SeatState → ℕ → SeatState → Type 0
-HaveMet st me found me' =
-    (seen : List Turn) × HasSaid (meeting me.0 seen) st me found me' × Every (HasTurnsOf plain seen) (map listing me.0) × AllCompatible me.0 × ShareHistory (HoldsPart me.0)
+-- The clients on this seat met. They are compatible and have one history of steps, and they saw turns in which those of each are those of its list, behind
+-- what it had seen before.
+pub record HaveMet (st : Step (Unit {0})) (me : SeatState) (found : ℕ) (me' : SeatState) : Type 0 where
+  pub seen : List Turn
+  pub said : me' ≡ (map (with_move (meeting me.0 seen)) me.0, me.1)
+  pub together : AreTogether (map (with_move (meeting me.0 seen)) me.0)
+  pub behind : Every (HasTurnsOf plain seen) (map listing me.0)
+  pub compatible : AllCompatible me.0
+  pub steps : ShareHistory (HoldsPart me.0)
+
+-- a part of these, which lists that they met and saw these turns
+abbrev pub having_met : List Part → List Turn → Part → Part
+having_met parts seen p = record p { moves = meeting parts seen ∷ p.moves }
+
+-- Two clients met, and each is on a seat of its own.
+pub record HaveMetApart (seen : List Turn) (p q : Part) (one other : SeatState) : Type 0 where
+  pub one_now : one ≡ (having_met (p ∷ q ∷ []) seen p ∷ [], [])
+  pub other_now : other ≡ (having_met (p ∷ q ∷ []) seen q ∷ [], [])
+  pub together : AreTogether (having_met (p ∷ q ∷ []) seen p ∷ having_met (p ∷ q ∷ []) seen q ∷ [])
+  pub one_behind : HasClients plain seen (p.place + 1) p.moves
+  pub other_behind : HasClients plain seen (q.place + 1) q.moves

@@ -4,10 +4,9 @@ ghost use Rattle.lease_manager.specs.Passes.{client_of, region_of, saying, sayin
 ghost use Rattle.lease_manager.specs.Said.{AreTogether, CanSay, IsAboard, IsDigestOf, IsReplyOf, IsSilent, with_move};
 
 use crate::kernel_pass::KernelPass;
-use crate::layout::{digest_word, reply_word};
 use crate::pass::Pass;
 use crate::region_pass::RegionPass;
-use crate::rule::{Said, Says};
+use crate::rule::Said;
 use crate::table::Leases;
 
 impl Leases {
@@ -33,8 +32,7 @@ impl Leases {
         ensures said { pass.new ≡ saying J.said pass.old }
         ensures together { AreTogether (pass.new.part ∷ []) }
     {
-        let word = reply_word(pass.place);
-        self.words().fetch_add::<Says<J>>(&mut pass.seat, word, 1);
+        self.acknowledge_on::<J>(&mut pass.seat, pass.place);
     }
 
     /// A client and the kernel say a move in which both take part, and which no word shows, by one load of both.
@@ -76,10 +74,7 @@ impl Leases {
         ensures kernel { kernel.new ≡ saying_part J.said kernel.old }
         ensures together { AreTogether (region.new.part ∷ kernel.new.part ∷ []) }
     {
-        let word = digest_word(region.place);
-        self.join(&mut region.seat, &mut kernel.seat);
-        self.words().fetch_add::<Says<J>>(&mut region.seat, word, count);
-        kernel.seat = self.cut(&mut region.seat);
+        self.digest_joined::<J>(&mut region.seat, &mut kernel.seat, region.place, count);
     }
 
     /// The kernel says a move in which it alone takes part, by one load.
