@@ -24,7 +24,7 @@ pub digest_joined-requires-clause-may : goal.digest_joined-requires-clause-may
 digest_joined-requires-clause-may g c =
     let one = ap (λ (p : PartView). p.part) c.region.view_is in
     let other = ap (λ (p : PartView). p.part) c.kernel.view_is in
-    subst (λ (ps : List Part). CanSay ps _) (sym (λ k. one k ∷ other k ∷ [])) c.requires.may
+    subst (λ (ps : List Part). CanSay ps g.J.Said.said) (sym (λ k. one k ∷ other k ∷ [])) c.requires.may
 
 pub returns-clause-region : goal.returns-clause-region
 returns-clause-region g c =

@@ -24,7 +24,7 @@ pub returns-clause-met : goal.returns-clause-met
 returns-clause-met c =
     let met = c.meet_joined.ensures.met.1 in
     let tables = c.meet_joined.ensures.tables in
-    let both : (own_part c.one.inside.seat.me.0).place + 1 ∷ (own_part c.other.inside.seat.me.0).place + 1 ∷ [] ≡ c.args.one.now.part.place + 1 ∷ c.args.other.now.part.place + 1 ∷ [] = λ k. (c.one.view_is k).part.place + 1 ∷ (c.other.view_is k).part.place + 1 ∷ [] in (
+    let both : ◌≡◌ {A = List ℕ} (((own_part c.one.inside.seat.me.0).place + 1) ∷ ((own_part c.other.inside.seat.me.0).place + 1) ∷ []) ((c.args.one.now.part.place + 1) ∷ (c.args.other.now.part.place + 1) ∷ []) = λ k. ((c.one.view_is k).part.place + 1) ∷ ((c.other.view_is k).part.place + 1) ∷ [] in (
       c.meet_joined.ensures.met.0,
       record {
         rest = met_view _ _ _ c.one.inside.seat.table_id _ _ _ _ _ _ (tables.0 ∙ sym (ap (λ (p : PassView). p.table) c.one.view_is ∙ c.requires.one)) (ap (λ (m : SeatState). own_part m.0) met.one_now) both c.one.view_is;
