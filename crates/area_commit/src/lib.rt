@@ -1,12 +1,22 @@
-//! Where a change of some inodes on the shared media is carried out: data to free blocks, a fence, one batch, and only then is free what it gives up.
+//! A planned change of some inodes is carried out on the shared media, whole or not at all.
 //!
-//! The blocks that are free stand in four pools (`Pools`): the node pool, and the data blocks of three tiers. A change is planned in memory: slots, marks and node
-//! blocks, data for blocks that were taken from the pools, and the blocks that are given up. The data goes to its blocks first, and each tier that was written is
-//! fenced; then one batch of the journal writes all else; then what was given up is free. So a stop at any moment leaves the media as they were, or with all of
-//! the change.
+//! How it is atomic: the data goes to free blocks, and each tier that was written is fenced; then one batch of the
+//! journal writes slots, marks and node blocks; only then is free what the change gives up. So a stop at any moment
+//! leaves the media as they were, or with all of the change.
 //!
-//! Beside it stand laws: what is read of inodes that are written anew (`whole`, `many`, `written`, `moved`, `changed`), what a batch puts into a store
-//! (`batch_laws`), and how many blocks are free at least, and what becomes of them and of the charge (`room`, `changing`, `charges`).
+//! The free blocks are in four pools (`Pools`): the node pool, and the data blocks of three tiers. A change is planned
+//! in memory: slots, marks and node blocks, data for blocks that were taken from the pools, and the blocks that are
+//! given up. Beside it are laws: what is read of inodes that are written anew (`inode_laws`, `change_laws`,
+//! `rewrite_laws`, `move_laws`, `store_laws`), what a batch puts into a store (`batch_laws`), and how many blocks are
+//! free at least, and what becomes of them and of the charge (`room`, `pool_laws`, `charges`).
+//!
+//! *Proved:*
+//! - At each moment a stop leaves all but free blocks as it was, or the whole plan: `carry_out`, `any_moment`, `done`.
+//! - Afterwards nothing is pending, and the pools have just the free blocks: `carry_out`, `rests`, `free`, `undone`.
+//! - The lowest blocks are taken, fastest tier first; `NoBlock` says exactly that fewer are free: `Pools::take`,
+//!   `data`, `few`.
+//!
+//! *Tested only:* nothing. *Trusted:* nothing of its own.
 #![tactic(auto)]
 
 mod allocation;

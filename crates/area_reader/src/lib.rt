@@ -1,4 +1,14 @@
 //! What the shared media spell: their blocks as a store, each inode of it, and the graph.
+//!
+//! *Proved:*
+//! - Media open exactly if they spell a graph within their units; else `Damaged` names a structure and its block:
+//!   `open_area`, `openable`, `damaged`.
+//! - With nothing damaged a graph is spelled, else none: `sound_blocks_spell_a_graph`; `damage_spells_no_graph`.
+//!
+//! *Tested only:* seven worlds of another program, and each thing that can be damaged in one (rows `areas` of
+//! `layer_rows`).
+//!
+//! *Trusted:* the kit's `thiserror`.
 #![tactic(auto)]
 
 mod area;

@@ -1,12 +1,25 @@
-//! The phases of a recovery: what counts in the logs is brought into the shared area, and before and behind it the media are opened, wiped or
-//! written anew. No world stands here: the crate `recovery` makes one of what these phases leave.
+//! The phases of a recovery: what counts in the logs is brought into the shared area, and before and after that the
+//! media are opened, wiped or written anew. It knows no world: `recovery` makes one of what these phases leave.
 //!
-//! `open_area` opens the shared medium, and `reopen_regions` the regions.
-//! `settle_area` finds the records that count (`log_search`), digests them (`log_digest`), tests the graph (`graph_test`), drops the files that
-//! have no name (`file_drops`), and sets all marks (`mark_moves`). Each of these phases says of every content that a stop in it may leave that it
-//! is recovered to the same state (`specs/Recovers.antt`, `specs/Phases.antt`). Then `wipe_regions` wipes the regions.
+//! `open_area` opens the shared medium, and `reopen_regions` the regions. `settle_area` finds the records that count
+//! (`log_search`), digests them (`log_digest`), tests the graph (`graph_test`), drops the files that have no name
+//! (`file_drops`), and sets all marks (`mark_moves`). Then `wipe_regions` wipes the regions. A format tests the sizes
+//! of all media (`check_sizes`), and writes the empty area and empty regions (`write_parts`,
+//! `specs/FreshContents.antt`).
 //!
-//! A format tests the sizes of all media (`check_sizes`), and writes the empty area and empty regions (`write_parts`, `specs/FreshContents.antt`).
+//! How it is atomic: each phase says of every content that a stop in it may leave that it is recovered to the same
+//! state (`specs/Recovers.antt`, `specs/Phases.antt`).
+//!
+//! *Proved:*
+//! - All that counts in the logs is brought into the area, whose graph is sound and stands for the stored tree,
+//!   settled; no record counts any more: `settle_area`, `settles`. Then the regions are wiped; at each moment the same
+//!   tree is stored: `wipe_regions`, `recovers`.
+//! - The shared medium opens, or its damage is named: `open_area`, `opens`, `damaged`, `named`.
+//!
+//! *Tested only:* device calls that fail under each phase (`tests/recovery_tests`).
+//!
+//! *Trusted:* `specs/Parts.antt`, `specs/FaultOrMemory.antt` and `src/error.rt`, which `docs/HEADLINE.md` lists; the
+//! kit's `byteorder` and `thiserror`.
 #![tactic(auto)]
 
 mod area_faults;

@@ -1,4 +1,14 @@
-//! What a served call does next: which event follows which outcome, until the call is answered. Written once, over a trait of one event, for whatever plays events.
+//! What a served call does next: which event follows which outcome, until the call is answered. It is written once,
+//! over a trait of one event (`Events`), for whatever plays events.
+//!
+//! *Proved:*
+//! - A call is started until it is answered, or a need can't be had: `serve_call`, `served`. An answer is the last
+//!   event's; a client that waits or is dead is blocked: `serve_call`, `answered`, `waits`, `dead`.
+//! - Others hand over an inode that is needed, or are in the way: `serve_need`, `served`; `others_hand_over`, `handed`.
+//! - A log is digested or wiped, a dead client buried: `digest_all`, `digested`; `wipe_all`, `wiped`; `bury_client`,
+//!   `buried`.
+//!
+//! *Tested only:* nothing. *Trusted:* nothing of its own.
 #![tactic(auto)]
 
 mod burials;

@@ -1,11 +1,24 @@
-//! What a call of a client changes, as a record for its log, and that this is one step of the file tree.
+//! What a client's call changes, as a record for its log, and that this is one step of the file tree.
 //!
-//! `specs/Wholes.antt` says which state of the file tree a graph of inodes and descriptors stand for, and when the two are sound;
-//! `specs/Effects.antt` which effects an operation has, and `specs/Knowledge.antt` what a client knows of the whole. `decide` of
-//! `posix_calls` gives a call's operation, `growth_of` the units that it may need, and `record_of` makes its record: all three ask
-//! whoever knows the tree or a part of it; `subjects` lists the inodes that the record will touch. That this is right is stated by the
-//! laws: over a whole (`laws`), of effects and units (`record_laws`), for a client that knows a part (`known_laws`), and once nobody
-//! has a file open, or one client is gone (`closed_graph_laws`).
+//! `specs/Wholes.antt` says which state of the file tree a graph of inodes and descriptors stand for, and when the two
+//! are sound; `specs/Effects.antt` which effects an operation has; `specs/Knowledge.antt` what a client knows of the
+//! whole. `decide` of `posix_calls` gives a call's operation, `growth_of` the units that it may need, and `record_of`
+//! makes its record: all three ask whoever knows the tree or a part of it. `subjects` lists the inodes that the record
+//! will touch. The laws say that this is right: over a whole (`laws`), of effects and units (`record_laws`), for a
+//! client that knows a part (`known_laws`), and once nobody has a file open, or one client is gone
+//! (`closed_graph_laws`).
+//!
+//! *Proved:*
+//! - A call over a sound graph is one step of the file tree, to a sound graph: `call_is_a_step`, `done`, `sound`. So is
+//!   a call decided by what a client knows, in every whole that agrees: `known_call_is_a_step`, `done`, `sound`.
+//! - All who have no copy of what changed still agree after it: `known_call_keeps_agreement`, `own`, `others`.
+//! - A record has its operation's effects, and pays for their growth: `record_of`, `answer`; `growth_of`, `answer`. An
+//!   answered operation has one, of 256 units at most: `answered_operations_have_spellings`, `spelled`, `units`.
+//! - What is missing is asked for in the order of the errors: `missing_is_asked_next`, `first`.
+//!
+//! *Tested only:* clients that know a part (rows `known` of `layer_rows`).
+//!
+//! *Trusted:* the kit's `arrayvec`.
 #![tactic(auto)]
 
 mod answer_laws;

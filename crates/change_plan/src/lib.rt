@@ -1,7 +1,14 @@
 //! A change of the graph on the shared media, as one plan.
 //!
-//! What becomes of each inode of the change is planned by itself, over a share of the blocks that were taken; the parts, one after the other, are one plan, which `area_commit`
-//! carries out; and then the store spells the graph after the change.
+//! What becomes of each inode of the change is planned by itself, over a share of the blocks that were taken. The
+//! parts, one after the other, are one plan, which `area_commit` carries out; then the store spells the graph after the
+//! change.
+//!
+//! *Proved:*
+//! - All inodes are planned, over the blocks that were taken for them: `plan_changes`, `whole`, `took`.
+//! - The plan can be carried out, to the graph after the change: `whole_change_can_be_carried_out`, `ready`, `graph`.
+//!
+//! *Tested only:* nothing. *Trusted:* nothing of its own.
 #![tactic(auto)]
 
 mod block_count;

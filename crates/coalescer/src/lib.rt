@@ -1,18 +1,25 @@
-//! From the records of a log to one change of many inodes.
+//! The records of a log, folded into one change of many inodes.
 //!
-//! `coalesce` makes of a list of records the change that sums up their effects, in which each inode and each block of a file stands at most
-//! once, so that what was overwritten never reaches the shared media. What it makes of a graph, also of one that is no tree of files,
-//! is what the records make of it, one after the other.
+//! `coalesce` makes of a list of records the change that sums up their effects: each inode and each block of a file is
+//! in it at most once, so what was overwritten never reaches the shared media. It makes of every graph, also of one
+//! that is no tree of files, what the records make of it, one after the other.
 //!
-//! Only what swapped names lead to is a matter of the graph. So where a record has a Swap, the change is without Swaps, and the effects
-//! on names are kept beside it; `RunChange::tell` takes the directories that Swaps name, and enters at each of these names what it leads
-//! to after the run. The change that comes of it is that of the whole run.
+//! What swapped names lead to depends on the graph. So if a record has a Swap, the change is without Swaps, and the
+//! effects on names are kept beside it; `RunChange::tell` takes the directories that Swaps name, and enters at each of
+//! these names what it leads to after the run. The result is the change of the whole run.
 //!
-//! `longest_run` counts how many records of a list a batch of the shared media takes at once, by their weight, which is a matter of the
-//! records alone (`specs/Weight.antt`).
+//! `longest_run` counts how many records of a list one batch of the shared media takes, by their weight, which depends
+//! on the records alone (`specs/Weight.antt`). A record costs time by its bytes and its effects, and by the logarithm
+//! of what the records before it touch; an entry also moves those behind it among the changed entries of its directory.
 //!
-//! A record costs by its bytes and its effects, and by the logarithm of what the records before it touch, however many they are; an entry
-//! also moves the ones behind it among the changed entries of its directory.
+//! *Proved:*
+//! - The change makes of every graph what the records make of it: `coalesce`, `meaning`; `RunChange::tell`, `change`.
+//! - A digest takes the longest run of at most 256 images and 512 blocks: `longest_run`, `exact`;
+//!   `chunk_has_its_limits`.
+//!
+//! *Tested only:* drawn records beside their fold, runs around 256 images and 512 blocks (`tests/layer_tests`).
+//!
+//! *Trusted:* nothing of its own.
 #![tactic(auto)]
 
 mod estimate;

@@ -1,13 +1,29 @@
-//! The digester: the next records of a client's sealed log reach the shared area, in one batch with the mark behind them.
+//! The digester: the next records of a client's sealed log reach the shared area, in one batch with the mark behind
+//! them.
 //!
-//! `prepare` takes the next records of a log and coalesces them, without the shared area: so several logs are prepared side by side, and one
-//! log even twice. `digest_chunk` then tests them over the shared area, which it asks for the nodes that they touch, and makes their change;
-//! it demands that the chunk is still the next one of its log, which `Chunk::is_next` tells.
-//! A change is summed up without the Swaps of its records; where there are some, the directories that they name are read behind the test, and tell what
-//! the swapped names lead to. So a chunk is digested once: one that was refused is dropped, and its records are prepared anew.
+//! `prepare` takes the next records of a log and coalesces them, without the shared area: so several logs are prepared
+//! side by side, and one log even twice. `digest_chunk` then tests them over the shared area, which it asks for the
+//! nodes that they touch, and makes their change. It demands that the chunk is still the next one of its log, as
+//! `Chunk::is_next` tells. A change is summed up without the Swaps of its records; if there are some, the directories
+//! that they name are read after the test, and tell what the swapped names lead to. A chunk that was refused is
+//! dropped, and its records are prepared anew.
 //!
-//! Below them, `next_run` takes the longest run of records that a batch holds, a matter of the records alone, and `test_records` tests each record of a run over the
-//! graph as those before it leave it (`record_validation`): all are good, or the first that is bad is named. It changes nothing.
+//! How a digest is atomic: graph and mark are changed by one batch (`Shared::apply`). So no record is digested twice,
+//! and none is left out.
+//!
+//! `next_run` takes the longest run of records that a batch holds, which depends on the records alone. `test_records`
+//! tests each record of a run over the graph as those before it leave it (`record_validation`): all are good, or the
+//! first that is bad is named. It changes nothing.
+//!
+//! *Proved:*
+//! - A chunk is the longest run that a batch takes, prepared without the area: `prepare`, `exact`, `next`, `only`.
+//! - At each moment a stop leaves graph and marks, both before or both after: `digest_chunk`, `any_moment`, `digested`.
+//! - The log is at its mark again, others stay: `digest_chunk`, `at_mark`; `others_digest_leaves_a_log_standing`.
+//! - `BadLog` names the first bad record, exactly if there is one: `digest_chunk`, `bad`.
+//!
+//! *Tested only:* logs digested in chunks, and records that no client logs (`tests/area_tests`).
+//!
+//! *Trusted:* the kit's `thiserror`.
 #![tactic(auto)]
 
 mod chunk;

@@ -1,7 +1,18 @@
 //! One event of a running system: a kernel, its eight clients, and the regions that they handed over.
 //!
-//! All that moves a device stands behind `System::play`: a step of a client moves one of its regions by one device call at most, a digest, a migration or a reclaim moves the shared media, and every other
-//! event moves nothing. Each event has one outcome, and it is stated exactly when an event has nothing to do (`Idle`).
+//! All that moves a device is behind `System::play`: a step of a client moves one of its regions by one device call at
+//! most, a digest, a migration or a reclaim moves the shared media, and every other event moves nothing. Each event has
+//! one outcome. A contract says exactly when an event has nothing to do (`Idle`).
+//!
+//! *Proved:*
+//! - `Idle` says exactly that the event has nothing to do, and nothing has changed: `System::play`, `idle`, `turn`.
+//! - Any other event does what `Effects.antt` defines for it, and leaves all other clients. At each moment the clients'
+//!   records count, and the shared media are, as before or as after: `System::play`, `plays`.
+//! - A system has clients 1 to 8, of one table of leases; others come back: `System::new`, `seats`, `others`, `back`.
+//! - A look at the shared graph changes neither clients nor accounts: `System::look`, `node`, `only`, `book`, `seats`.
+//!
+//! *Tested only:* nothing. *Trusted:* `src/event.rt` and `src/outcome.rt`, which `docs/HEADLINE.md` lists; the kit's
+//! `atomic_table`.
 #![tactic(auto)]
 
 mod calls;

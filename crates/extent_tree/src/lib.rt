@@ -1,6 +1,15 @@
 //! The extents of one inode in one tier: a map from logical blocks to places, kept as a tree of nodes.
 //!
-//! Contracts see an `Extents` as its runs, in the normal form of `extent_nodes`, and how many entries each level of its tree has.
+//! Contracts see an `Extents` as its runs, in normal form (`specs/Normal.antt`), and how many entries each level of its
+//! tree has.
+//!
+//! *Proved:*
+//! - A run of blocks is mapped or unmapped, and no other block: `Extents::map`, `mapped`; `Extents::unmap`, `unmapped`.
+//! - A block is found by at most `N` comparisons a level: `Extents::at_counted`, `place`, `compared`.
+//!
+//! *Tested only:* a tree that grows and shrinks (`tests/layer_tests`).
+//!
+//! *Trusted:* nothing of its own.
 #![tactic(auto)]
 
 mod byte_search;

@@ -63,7 +63,7 @@ impl<V> Model for EntryRoom<V> {
 }
 
 impl<V: Drop> EntryRoom<V> {
-    /// Room for so many entries. None is asked for where there are none.
+    /// Reserves room for `count` entries; 0 takes no memory.
     pub fn with_room(alloc: Global, count: u32) -> Result<Self, AllocError>
         ensures room { IfOk result (λ room. room ≡ count) }
         ensures none { OnErr result (0 < count) }

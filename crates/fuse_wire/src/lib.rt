@@ -1,8 +1,19 @@
-//! The messages of the FUSE protocol, version 7.31, as `linux/fuse.h` of the Linux UAPI lays them out: what the kernel asks of the
-//! server of a mount, and what it is answered.
+//! The messages of the FUSE protocol, version 7.31, as the header fuse.h of the Linux UAPI lays them out: what Linux
+//! asks of the server of a mount, and what it is answered.
 //!
-//! `read_request` gives what the bytes of a message spell, or names what is wrong with them. Each `write_..` spells one reply
-//! into a buffer that is cleared first. Numbers are little-endian. Names and written data are lent from the message.
+//! `read_request` gives what the bytes of a message spell, or names what is wrong with them. Each function that writes
+//! spells one reply into a buffer that is cleared first. Numbers are little-endian. Names and written data are lent
+//! from the message.
+//!
+//! *Proved:*
+//! - A request is read as its bytes spell it, or what is wrong is named: `read_request`; `message_length`.
+//! - A reply is spelled as the protocol has it; entries go in while they fit: `write_entry`; `write_dirents`.
+//! - No capability is agreed on that was not offered, nor any that a mount does without: `negotiate`.
+//!
+//! *Tested only:* that Linux reads and writes these messages (`tools/mount_tests`; rows of `strata_fuse`, made with
+//! Linux's header by `tools/fuse_rows`).
+//!
+//! *Trusted:* the kit's `byteorder` and `thiserror`.
 #![tactic(auto)]
 
 mod dirents;

@@ -1,18 +1,26 @@
 //! A change of many inodes at once: the sum of a list of effects.
 //!
-//! A `GraphChange` says of each inode that it touches what becomes of the node there, of its names, of a file's length and of the
-//! bytes in each of its blocks, and of a directory's entries, each one time, however often the effects changed it. Whoever
-//! coalesces effects makes one, and whoever keeps a graph on media applies one; what it makes of a graph is a definition
-//! (`changed_graph` in `specs/Change.antt`), and `changes_are_the_effects` says that this is what the effects make of it, without their
-//! Swaps.
+//! A `GraphChange` says of each inode that it touches what becomes of the node, of its names, of a file's length and of
+//! the bytes in each of its blocks, and of a directory's entries: each once, however often the effects changed it.
+//! Whoever coalesces effects makes one, and whoever keeps a graph on media applies one. What it makes of a graph is
+//! `changed_graph` in `specs/Change.antt`; `changes_are_the_effects` says that this is what the effects make of it,
+//! without their Swaps.
 //!
-//! The bytes of a write are not copied: each block that they lie in has a share of them, which is given up where later bytes go over all of it. Only where bytes
-//! are put over some of those of a block has it bytes of its own.
+//! The bytes of a write are not copied: each block that they lie in has a share of them, which is dropped once later
+//! bytes cover all of it. A block has bytes of its own only if some of them were written over in part.
 //!
-//! A Swap of two names is of two directories, and depends on the graph, so no change of single inodes has it. Effects do what they do
-//! without their Swaps, and then enter at each swapped name what it leads to in the end. So beside the change stand, where a Swap is
-//! among the effects, those on names, in their order: they tell on each graph what is entered (`specs/Swaps.antt`), and
-//! `swapped_sums_are_the_effects` says that both together make of it what the effects make of it.
+//! A Swap of two names is of two directories and depends on the graph, so no change of single inodes has it. The
+//! effects are done without their Swaps, and then each swapped name gets what it leads to in the end. So if there is a
+//! Swap, the effects on names are kept beside the change, in their order: they tell on each graph what is entered
+//! (`specs/Swaps.antt`).
+//!
+//! *Proved:*
+//! - One effect more is added, inode by inode and block by block: `GraphChange::add`, `change`, `refused`.
+//! - A change makes of every graph what its effects make of it in turn: `swapped_sums_are_the_effects`.
+//!
+//! *Tested only:* each kind of effect, and a block under its bytes (`tests/layer_tests`).
+//!
+//! *Trusted:* nothing of its own.
 #![tactic(auto)]
 
 mod block_change;

@@ -1,14 +1,22 @@
-//! Whether a graph of inodes is sound where nobody has a file open, and which of its files have no name: what a
-//! recovery has to know before it uses a graph that it found on its media, which may be any graph.
+//! Whether a graph of inodes is sound if nobody has a file open, and which of its files have no name: what a recovery
+//! has to know of the graph on its media, which may be any.
 //!
-//! A graph is sound (`IsSound` in `call_effects`) where the root is a directory, each entry names a node of its kind,
-//! each stored count of names is the number of entries which name the inode (the root has one more), a directory has
-//! one name, and a path leads to each directory. `check_graph` asks for each node once, and finds that the graph is
-//! sound, or a defect and its inode (`specs/Defects.antt`).
+//! A graph is sound (`IsSound` in `call_effects`) if the root is a directory, each entry names a node of its kind, each
+//! stored count of names is the number of entries that name the inode (the root has one more), a directory has one
+//! name, and a path leads to each directory. `check_graph` asks for each node once, and finds that the graph is sound,
+//! or a defect and its inode (`specs/Defects.antt`).
 //!
-//! Memory is bounded by the inodes, not by the entries: of these it keeps how many name each inode as a file and how
-//! many as a directory, and the last directory that has such an entry. Where each directory has one name, that is its
+//! Memory is bounded by the inodes, not by the entries: it keeps how many entries name each inode as a file and how
+//! many as a directory, and the last directory that has such an entry. If each directory has one name, that is its
 //! parent, and from the root marks spread from parent to child.
+//!
+//! *Proved:*
+//! - A graph is sound, with its files without names, or a defect is named: `check_graph`, `sound`, `nameless`,
+//!   `defect`.
+//!
+//! *Tested only:* sound graphs and each defect (`tests/layer_tests`).
+//!
+//! *Trusted:* nothing of its own.
 #![tactic(auto)]
 
 mod check;

@@ -1,5 +1,25 @@
-//! Two further kinds of medium: `RamMedia`, in memory, whose past no memory holds, and `FileMedia`, over a file of the operating
-//! system, or over a part of one: a `DiskFile` is one file with several media.
+//! Two further kinds of medium: `RamMedia`, in memory, for long runs, and `FileMedia`, in a file of the operating
+//! system. A `DiskFile` is one locked file with several media, one behind the other.
+//!
+//! `RamMedia` keeps what an earlier stop may have left as ghost data, not in memory. `FileMedia` writes at once, and
+//! syncs at a fence if the tier was written. A new file gets its name only once it is complete, and a file is replaced
+//! by a rename: so there is the old one or the new one, whole.
+//!
+//! *Proved:*
+//! - `RamMedia` answers no call with a device fault: `RamMedia::write`, `never`; `RamMedia::fence`, `never`.
+//! - A file is opened as a medium at rest that was synced: `FileMedia::open`, `at_rest`, `synced`, `works`. It is
+//!   parted into such media, one behind the other: `DiskFile::into_media`, `places`, `sizes`, `opened`.
+//! - After the first write or sync that fails, every call in range is a device fault: `FileMedia::write`, `failed`. A
+//!   fence syncs only a tier that was written since the last sync: `FileMedia::fence`, `quiet`, `sure`.
+//! - All that the system may keep, by the syncs that succeeded, the device model allows: `FileMedia::is_covered`. Media
+//!   are read from an image whole, and written as reads give them: `read_image`, `bytes`, `sizes`; `image_of`.
+//!
+//! *Tested only:* what a file holds once it is opened again; making, naming and removing files (rows `devices` of
+//! `layer_rows`); a kill, and system calls that are cut short or fail (`tools/kill_after_answers`,
+//! `tools/file_faults`).
+//!
+//! *Trusted:* that the system calls in `src/host.rt` and `src/shared_file.rt` do what the proof assumes, that a sync
+//! which succeeded keeps what was written, that nobody else writes the file; the kit's `thiserror`.
 #![tactic(auto)]
 
 mod disk_file;

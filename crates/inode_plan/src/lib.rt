@@ -1,13 +1,23 @@
-//! What a change of the graph makes of one inode, before anything is written.
+//! What a change of the graph makes of one inode, planned in memory before anything is written.
 //!
-//! Of a file: which of its blocks are written, with which bytes, where they and the others lie then, what lists them, and what is given up. `written_numbers` tells how
-//! many data blocks are wanted. Once these are taken, `plan_file` has where all blocks lie, and `roots_wanted` tells how many blocks of the node pool are wanted to
-//! list them; with these `slot_after` has the slot.
+//! Of a file: which of its blocks are written, with which bytes, where they and the others are then, what lists them,
+//! and what is given up. `written_numbers` tells how many data blocks are wanted. Once these are taken, `plan_file` has
+//! where all blocks are, and `roots_wanted` how many blocks of the node pool are wanted to list them; with these
+//! `slot_after` has the slot.
 //!
-//! Of a directory: it is read into memory, or begins there with no block; its entries are changed; and then, with as many spare blocks of the node pool as it wants,
-//! `plan_directory` has the slot, the images of the blocks that were written and of the one that lists where they lie, and which blocks are given up.
+//! Of a directory: it is read into memory, or begins there with no block; its entries are changed; and then, with as
+//! many spare blocks of the node pool as it wants, `plan_directory` has the slot, the images of the blocks that were
+//! written and of the one that lists where they are, and which blocks are given up.
 //!
-//! The laws (`file_laws`, `directory_laws`, `place_laws`) say that a store in which all of it stands has the changed inode.
+//! The laws (`file_laws`, `directory_laws`, `place_laws`) say that a store in which all of this is written has the
+//! changed inode.
+//!
+//! *Proved:*
+//! - Only blocks are written into which bytes were put, or mapped ones that are cut within: `written_numbers`,
+//!   `numbers`.
+//! - Written blocks are in new places, cut ones nowhere, the others where they were: `plan_file`, `map`, `left`.
+//!
+//! *Tested only:* nothing. *Trusted:* nothing of its own.
 #![tactic(auto)]
 
 mod block_maps;

@@ -1,9 +1,19 @@
-//! A running system with the calls that are started and not answered, which stands for a world over plain data between any two events,
-//! and plays every list of events.
+//! A running system with the calls that are started and not answered. Between any two events it stands for a world over
+//! plain data, and it plays every list of events.
 //!
-//! `World::play_event` is one event as `event_lists` asks for it: its replies are those of one file tree, and whatever a stop leaves of the
-//! seventeen parts, at any moment of it, is recovered to the tree before it, with some of the calls that were not answered. `play` is that
-//! of a list.
+//! `World::play_event` is one event as `event_lists` asks for it: its replies are those of one file tree, and whatever
+//! a stop leaves of the seventeen parts, at any moment of it, is recovered to the tree before it, with some of the
+//! calls that were not answered. `play` is that of a list.
+//!
+//! *Proved:*
+//! - The answers to a list are those of one file tree, and each stop of it is recovered to that tree: `play`, `plays`.
+//!   It refuses only for want of memory, before the first event, with the world as it was: `play`, `refusal`.
+//! - A graph that is read from media and logs tells its tree, which stays: `World::snapshot`, `graph`, `tree`, `kept`.
+//! - A look at the shared graph leaves the tree and what is begun: `World::look`, `tree`; `World::tier_of`, `tree`.
+//!
+//! *Tested only:* 500 drawn lines of four clients over five small media, beside a plain tree (`tests/shell_tests`).
+//!
+//! *Trusted:* nothing of its own.
 #![tactic(auto)]
 
 mod leases;

@@ -1,25 +1,49 @@
-//! The kernel: the shared media with what they spell, the accounts of its clients, and one call for each of its entries.
+//! The kernel: the shared media with what they spell, the accounts of its clients, and one call for each of its
+//! entries.
 //!
-//! A kernel stands for a machine (`specs/MachineState.antt`, and `Machine` of `world_invariant`): its media spell the machine's graph and its marks, and its book has the machine's accounts. Each call that
-//! changes it is one step of that machine, from whichever it stands for (`step`), so whoever holds a kernel holds the end of a run of it. What the machine does not have is where blocks lie; grants, pins and
-//! accepted regions are in memory alone, and nothing of them outlives a stop.
+//! A kernel stands for a machine (`specs/MachineState.antt`, and `Machine` of `world_invariant`): its media spell the
+//! machine's graph and its marks, and its book has the machine's accounts. Each call that changes it is one step of
+//! that machine, whichever it stands for (`step`); so whoever holds a kernel holds the end of a run of it. The machine
+//! does not say in which places blocks are. Grants, pins and accepted regions are in memory alone, and no stop keeps
+//! them.
 //!
-//! Each call asks first whether a device has failed: once one has, every call answers that and nothing else (`failed`), until the media are opened again.
+//! How a digest is atomic: graph and mark move in one batch on the media, and then the account follows in memory.
+//!
+//! Each call asks first whether a device has failed: once one has, every call answers just that (`failed`), until the
+//! media are opened again.
 //!
 //! # The book
 //!
-//! The kernel keeps in memory of each client the units and inode numbers that it was given, the inodes that it has pinned, and how many of the records that it handed over are not digested. `Book` has no
-//! medium: contracts see it as the accounts of the machine, and each of its calls is a step of that machine, or several at once (`specs/Steps.antt`). Whoever opens the kernel again begins with an empty book.
-//! Clients are numbered from 1, as everywhere; marks and accounts have client c at the index c - 1 (`client_index`).
+//! The kernel keeps in memory of each client the units and inode numbers that it was given, the inodes that it has
+//! pinned, and how many of the records that it handed over are not digested. `Book` has no medium: contracts see it as
+//! the accounts of the machine, and each of its calls is a step of that machine, or several at once
+//! (`specs/Steps.antt`). Whoever opens the kernel again begins with an empty book. Clients are numbered from 1, as
+//! everywhere; marks and accounts have client c at the index c - 1 (`client_index`).
 //!
 //! # The mark
 //!
-//! The machine counts for each client how many of all its records were ever accepted, and how many digested: its mark. No number of a running
-//! program counts that for ever, so the book keeps their distance alone, the records that are *waiting*. The mark that the media keep has a
-//! generation, and how many records of that generation are digested; with the last one of a region it moves to the next generation, and to
-//! 0. So the machine's mark is the number of records in all generations that were finished since the kernel was opened, and that count
-//! beside it; the client's region is accepted exactly where some are waiting, and has as many records as that count and the waiting ones.
-//! `specs/Marks.antt` says so, and `marks_go_with_the_machine` that it stays.
+//! The machine counts for each client how many of all its records were ever accepted, and how many digested: its mark.
+//! No number of a running program counts that for ever, so the book keeps their distance alone, the records that are
+//! *waiting*. The mark that the media keep has a generation, and how many records of that generation are digested; with
+//! the last one of a region it moves to the next generation, and to 0. So the machine's mark is the number of records
+//! in all generations that were finished since the kernel was opened, and that count beside it; the client's region is
+//! accepted exactly if some are waiting, and has as many records as that count and the waiting ones. `specs/Marks.antt`
+//! says so, and `marks_go_with_the_machine` that it stays.
+//!
+//! *Proved:*
+//! - A digest moves graph, mark and account; a stop leaves both before or both after: `Kernel::digest`, `any_moment`.
+//!   `NotNext` says exactly that the chunk does not begin at the mark, `NotAccepted` that only its region is not
+//!   accepted: `Kernel::digest`, `next`, `not_next`, `not_accepted`, `not_digested`.
+//! - `NoUnits` says exactly that charge, units out and units asked for pass the capacity, `NoInode` that only numbers
+//!   run out: `Kernel::refill`, `granted`, `no_units`, `no_inode`, `refused`. What is charged and what is out stay
+//!   within the capacity: `Kernel::refill`, `law`; `Kernel::digest`, `law`.
+//! - A region is accepted once, at its mark: `Kernel::accept`, `accepted`, `not_at_mark`, `already_accepted`; a digest
+//!   is of the one accepted last: `digests_are_of_the_region_accepted_last`. A file without name and pin is dropped
+//!   whole; `InUse` says that it is none: `Kernel::reclaim`, `any_moment`, `in_use`.
+//! - Each call is a step of its machine, from the opening on: `Kernel::accept`, `step`; `Kernel::has_history`, `run`.
+//!   Between two calls a stop leaves media that open to the same graph and marks: `Kernel::left_now`, `same`.
+//!
+//! *Tested only:* nothing. *Trusted:* the kit's `thiserror`.
 #![tactic(auto)]
 
 mod account;

@@ -1,9 +1,21 @@
 //! The structures of the shared media, and the bytes of each, both ways.
 //!
-//! `Geometry` says where everything stands. `Super`, `Slot`, `Marks`, `ExtentBlock` and `DirBlock` are what stands there. What
-//! each is spelled as, and what bytes are read as, are functions of `specs/`; `encode` and `decode` meet them exactly. Numbers
-//! are little-endian, and bytes that no field names are zero. What fills a whole block is an `Image`, which is written where the
-//! block is to stand.
+//! `Geometry` says where everything is. `Super`, `Slot`, `Marks`, `ExtentBlock` and `DirBlock` are what is there. What
+//! each is spelled as, and what bytes are read as, are functions of `specs/`; `encode` and `decode` meet them exactly.
+//! Numbers are little-endian, and bytes that no field names are zero. What fills a whole block is an `Image`, which is
+//! written where the block belongs.
+//!
+//! *Proved:*
+//! - What is written is read again: `slot_is_read`; `marks_are_read`; `extents_are_read`; `entries_are_read`;
+//!   `super_is_read`.
+//! - `Damaged` says exactly that the bytes spell no structure: `Slot::decode`; `DirBlock::decode`;
+//!   `ExtentBlock::decode`.
+//! - The format's places, limits and bytes are told by number: `format_has_its_places`; `format_has_its_limits`;
+//!   `format_has_its_bytes`.
+//!
+//! *Tested only:* structures of another program (rows `formats` and `media` of `layer_rows`).
+//!
+//! *Trusted:* the kit's `byteorder` and `thiserror`.
 #![tactic(auto)]
 
 mod dir_changes;

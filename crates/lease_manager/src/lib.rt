@@ -1,10 +1,24 @@
 //! Leases of inodes, kept in words that all clients share: one writer alone or any readers, in any schedule of threads.
 //!
-//! Each client has a pass. A call changes one word in one atomic step, or in two, and what the pass knows with it.
-//! No call waits, and only `Leases::open` takes memory. What the asked words keep is stated by `laws`.
+//! How it is atomic: a call changes one word in one atomic step, or in two, and with it what the pass of its client
+//! knows. No call waits, and only `Leases::open` takes memory. The laws (`laws`) say what the words keep by which
+//! clients ask one another for leases.
 //!
-//! A pass counts on each inode how many of its client's records that are not digested touch it, each record once (`note_effects`, `clean_records`): no write lease is
-//! given back while one of them does.
+//! A pass counts on each inode how many of its client's records that are not digested touch it, each record once
+//! (`note_effects`, `clean_records`). No write lease is given back while one of them does.
+//!
+//! *Proved:*
+//! - One client holds an inode for writing and no other any lease, or any of them read it: `Leases::meet`, `leases`.
+//! - A step takes a lease, or `Busy` shows another's: `Leases::take_read`, `taken`; `Leases::take_write`, `taken`,
+//!   `other`. One is given back once no undigested record is on the inode (a demand): `Leases::give`, `step`;
+//!   `give_all`, `order`.
+//! - Records are counted on inodes that are held for writing alone: `Leases::note`, `noted`; `Pass::counts_held`.
+//! - What is asked of a client waits until it is heard, once: `asked_question_waits`; `heard_question_is_new`.
+//!
+//! *Tested only:* eight threads with 20 rounds over every lease: none excludes another, and all words are 0 at the end
+//! (`tests/thread_tests`).
+//!
+//! *Trusted:* the kit's `atomic_table`.
 #![tactic(auto)]
 
 mod client_pair;

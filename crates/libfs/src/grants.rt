@@ -163,7 +163,7 @@ fn drop_pin(pins: &mut Vec<u32>, inode: u32)
     pins.retain(|pin| *pin != inode);
 }
 
-// The numbers of a set, so many, behind others; there is room for them.
+// Appends the `count` numbers of a set; there is room for them.
 fn add_all(numbers: &mut Vec<u32>, more: InodeSet, count: u32)
     requires count { count_of (has more) ≡ count }
     requires room { vec_len numbers.old + count ≤ vec_capacity numbers.old }

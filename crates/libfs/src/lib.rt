@@ -1,19 +1,46 @@
 //! One client of the file system: what it knows, what it holds, and its log, and by these the answers to its calls.
 //!
-//! A call is started (`Client::start`): it is answered at once, or something is lacking first, or a record of it is begun in the client's log. That record is kept by four device
-//! calls, one a `Client::step`, and then the call is answered. What a call comes to is decided by `client_plan`, from what the client knows (`client_view`) and what it holds
-//! (`specs/ClientHoldings.antt`); neither `start` nor `step` nor a call on a lease waits for anyone.
+//! A call is started (`Client::start`): it is answered at once, or something is lacking first, or a record of it is
+//! begun in the client's log. What a call comes to is decided by `client_plan`, from what the client knows
+//! (`client_view`) and what it holds (`specs/ClientHoldings.antt`). Neither `start` nor `step` nor a call on a lease
+//! waits for anyone.
 //!
-//! The records that are not digested stay in memory beside the log: those of the current region and those of the region that is away. The pass counts on each inode how many of them
-//! touch it, so no lease goes while a record on its inode is not digested, and no copy, by which the record was planned.
+//! How a call is atomic: its record is kept by four device calls, one a `Client::step`, as `update_log` appends it;
+//! then the call is answered.
 //!
-//! What it lacks beside leases and room it asks of the kernel: copies of nodes that none of its own undigested records touches, blocks, over which it lays these records, units, numbers for new nodes, and pins. Each is one call
-//! of the kernel, and one step of its machine.
+//! The records that are not digested stay in memory beside the log: those of the current region and those of the region
+//! that is away. The pass counts on each inode how many of them touch it, so no lease goes while a record on its inode
+//! is not digested, and no copy, by which the record was planned.
 //!
-//! A client that dies is settled by one fence of the region that it writes: its begun call is whole, with its reply, or gone, and all that it had open is closed. Once its regions are digested
-//! and wiped it is buried, in one entry of the kernel, and a new client may go on in its pass and log (`specs/ClientEnd.antt`).
+//! What it lacks beside leases and room it asks of the kernel: copies of nodes that none of its own undigested records
+//! touches, blocks, over which it lays these records, units, numbers for new nodes, and pins. Each is one call of the
+//! kernel, and one step of its machine.
 //!
-//! That what a client answers is a step of the file tree, in every whole that agrees with what it knows, is told by the laws.
+//! A client that dies is settled by one fence of the region that it writes: its begun call is whole, with its reply, or
+//! gone, and all that it had open is closed. Once its regions are digested and wiped it is buried, in one entry of the
+//! kernel, and a new client may go on in its pass and log (`specs/ClientEnd.antt`).
+//!
+//! *Proved:*
+//! - A call is answered, or needs one thing, or its record is begun (`plan_call`): `Client::start`, `started`,
+//!   `failed`. Either is one step of each whole that agrees: `answered_start_is_a_step`, `step`;
+//!   `begun_record_is_a_step`, `step`. Four device calls keep the record and answer the call; a fault answers `EIO`:
+//!   `Client::step`, `replied`, `failed`. At each moment the records that counted count, with the begun one or without:
+//!   `Client::step`, `any_moment`.
+//! - A lease is given back exactly if it is held, no record that is not digested touches the inode, no call waits and
+//!   no device failed: `Client::give`, `exact`; such a record's inodes are held, and copied: `own_records_are_held`.
+//!   The kernel serves each need but leases and room; then it is gone: `Client::serve`, `served`;
+//!   `served_client_needs_it_no_longer`, `view`; a wiped region has room: `wiped_region_has_room`, `room`.
+//! - A sealed region is read once and digested as its log: `SealedRegion::read_records`, `again`;
+//!   `SealedRegion::digest`, `digests`. It is taken back once all of it is digested: `Client::seal`, `exact`;
+//!   `Client::take_back`, `exact`.
+//! - A dead client's call is found by one fence, whole or gone; nothing stays open: `Client::settle`, `settles`,
+//!   `moved`. Once digested it is buried by one kernel call, and a new one follows: `Client::bury`; `Client::renew`,
+//!   `exact`.
+//!
+//! *Tested only:* that a client's calls find memory if there is some (scripts of `strata_sh`, which would answer
+//! `ENOMEM`).
+//!
+//! *Trusted:* `src/fate.rt`, which `docs/HEADLINE.md` lists; the kit's `atomic_table`.
 #![tactic(auto)]
 
 mod begun_record;

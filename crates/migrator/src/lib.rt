@@ -1,4 +1,14 @@
-//! The migrator: which run of a file's blocks is moved down next, and how it is moved.
+//! The migrator: which run of a file's blocks is moved down next, and its move, which is atomic as one of
+//! `shared_area`.
+//!
+//! *Proved:*
+//! - The next is the first run, of at most 256 blocks, of the file one tier above that was digested longest ago, then
+//!   of the lowest inode: `pick`, `picked`.
+//! - It can be moved, unless blocks, memory or a device are wanting: `pick`, `may_be_moved`; `migrate`, `no_block`.
+//!
+//! *Tested only:* that the coldest files are moved in order (`tests/area_tests`).
+//!
+//! *Trusted:* nothing of its own.
 #![tactic(auto)]
 
 mod migration;

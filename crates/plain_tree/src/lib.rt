@@ -1,7 +1,13 @@
-//! A file tree that runs, for programs and tests.
+//! A file tree that runs, as the model beside which programs and tests are compared.
 //!
 //! `PlainTree` holds a tree in memory with the descriptors of its clients, and answers every call as the definitions of
-//! `posix_calls` say: a new node gets the lowest inode number that is free.
+//! `posix_calls` say. A new node gets the lowest inode number that is free.
+//!
+//! *Proved:*
+//! - Each answer is a step of the profile, and an error leaves the tree: `PlainTree::ask`, `step`, `refused`.
+//! - A new node gets the lowest free number; only memory or numbers can run out: `PlainTree::ask`, `exact`.
+//!
+//! *Tested only:* nothing. *Trusted:* nothing of its own.
 #![tactic(auto)]
 
 mod name_counts;

@@ -1,12 +1,27 @@
-//! The calls of the file system and what they are answered: the words that all the crates above have in common.
+//! The calls of the file system and what they are answered: the vocabulary of all crates above.
 //!
-//! `Bytes`, `SharedBytes` and `Name` are what a call carries, `Call` and `Reply` are what is asked and answered, and `Errno` is why a call
-//! was refused. `Path::read` reads a path. Contracts see bytes, names and paths as lists, so two calls are equal exactly where
-//! they say the same.
+//! `Bytes`, `SharedBytes` and `Name` are what a call carries, `Call` and `Reply` what is asked and answered, `Errno`
+//! why a call was refused. `Path::read` reads a path. Contracts see bytes, names and paths as lists, so two calls are
+//! equal exactly if they say the same.
 //!
-//! What a call is to be answered, and what it makes of the file tree, are definitions of `specs/`: the questions that it asks,
-//! its errors in their order (`Decide`), and what it does where none holds (`Operations`). `decide` answers them for whoever knows the
-//! tree or a part of it (`TreeAnswers`), and the functions of `laws` say what holds of every step. `plain_tree` has a tree that runs.
+//! What a call is answered, and what it makes of the file tree, are definitions of `specs/`: the questions that it
+//! asks, its errors in their order (`Decide`), and what it does if there is none (`Operations`). `decide` answers them
+//! for whoever knows the tree or a part of it (`TreeAnswers`). The functions of `laws` say what holds of every step.
+//! `plain_tree` has a tree that runs.
+//!
+//! *Proved:*
+//! - A call is decided as the profile has it: an operation, its first error, or what is not known: `decide`, `answer`.
+//!   A path is read to its names, or refused with its first error: `Path::read`, `names`, `refused`.
+//! - A call has one reply, and one state after it but for a new node's number: `step_is_determined`, `reply`, `state`.
+//!   An error changes nothing: `failed_step_changes_nothing`.
+//! - What a part of a tree answers the whole tree answers: `part_answers_as_the_whole`, `known`, `missing`.
+//! - Every run stays within the limits and well-formed, a tree in which each entry names a node:
+//!   `states_stay_within_limits`, `run`; `states_stay_well_formed`, `run`; `well_formed_state_is_a_tree`, `ancestors`.
+//!
+//! *Tested only:* that the definitions mean what `docs/PROFILE.md` says, by some 65 examples (`proofs/`: `Rows`,
+//! `Orders`); paths (rows `formats` of `layer_rows`).
+//!
+//! *Trusted:* the definitions that `docs/HEADLINE.md` lists.
 #![tactic(auto)]
 
 mod bytes;

@@ -1,7 +1,13 @@
 //! The run of a program: its words, the status that it ends with, and tables of rows that say what runs are to print.
 //!
-//! `run_program` is a program's frame; `tell` and `tell_fault` print why one ends before its end. `run_rows` holds a table of scripts
-//! against what their runs print: a `Row` has the words, the script and what is printed, and who has the programs runs them (`Programs`).
+//! `run_program` is a program's frame; `tell` and `tell_fault` print why it ends early. `run_rows` compares what runs
+//! print with a table of scripts: a `Row` has the words, the script and what is printed, and `Programs` runs them.
+//!
+//! *Proved:* nothing of its own but that it is safe.
+//!
+//! *Tested only:* all of it (rows of the programs).
+//!
+//! *Trusted:* the kit's `clap`.
 #![tactic(auto)]
 
 mod difference;

@@ -1,14 +1,24 @@
-//! What a record does to nodes that are known without the bytes of files, and what it costs: whoever digests a log tests each record so, before it
-//! changes anything.
+//! Whether a record may be digested: what it does to nodes that are known without the bytes of files, and what it
+//! costs.
 //!
-//! A file is known by its size, a directory by its entries (`NodeSummary`), which is all that a call asks of a node but its bytes. What effects make of
-//! such a node is what they make of the node, and its numbers after them are told without doing them (`counts_after`). By how much effects raise the
-//! charge of a graph is told by the nodes that they touch (`record_costs`): a map tells what stands at each of these inodes, or that nothing does. Who has
-//! the graph tells its nodes one by one (`Nodes`).
+//! A file is known by its size, a directory by its entries (`NodeSummary`): all that a call asks of a node but its
+//! bytes. What effects make of such a summary is the summary of what they make of the node; its sizes after them are
+//! told without doing them (`counts_after`). By how much effects raise the charge of a graph is told by the nodes that
+//! they touch (`record_costs`): a map says what is at each of these inodes, or that nothing is. Who has the graph tells
+//! its nodes one by one (`Nodes`).
 //!
-//! A record is good (`IsGood` in `specs/Good.antt`) where its client holds every inode that it touches for writing, its units pay for what it raises, what
-//! it touches keeps the limits after it, and the graph after it costs no more than there is. `test_record` tells that, or names an inode to be looked up.
-//! A `RecordCheck` goes on from one good record to the next.
+//! A record is good (`IsGood` in `specs/Good.antt`) if its client holds every inode that it touches for writing, its
+//! units pay for what it raises, what it touches keeps the limits after it, and the graph after it costs no more than
+//! there is. `test_record` says so, or names an inode to be looked up. A `RecordCheck` goes on from one good record to
+//! the next.
+//!
+//! *Proved:*
+//! - A record is good, or bad, or names an inode that has to be looked up first: `test_record`, `answer`, `unknown`.
+//! - Records in turn are tested over the graph that those before them leave: `RecordCheck::next`, `answer`, `stands`.
+//!
+//! *Tested only:* records at the limits and out of their client's leases (`tests/layer_tests`).
+//!
+//! *Trusted:* nothing of its own.
 #![tactic(auto)]
 
 mod costs;

@@ -1,11 +1,27 @@
-//! A world is made of what its parts hold: `format` makes the empty one, `recover` the one that any contents store, and `take_apart` gives
-//! the media of one back.
+//! Worlds are made of what their parts hold: `format` makes the empty one, `recover` the one that any contents store,
+//! and `take_apart` gives the media of one back.
 //!
-//! `recover` opens the shared medium and the sixteen regions, brings the records that count into the area, wipes the regions (all this in the crate
-//! `area_recovery`), and opens kernel and clients over them (`assembly`). Each of these phases says of every content that a stop in it may leave that
-//! it is recovered to the same state (`Recovers.antt` and `Phases.antt` of `area_recovery`).
+//! `recover` opens the shared medium and the sixteen regions, brings the records that count into the area, wipes the
+//! regions (all this in `area_recovery`), and opens kernel and clients over them (`assembly`).
 //!
-//! `recover_after_stop` is what all of this is for: every answered call survives (`specs/Survival.antt`).
+//! How it is atomic: each of these phases says of every content that a stop in it may leave that it is recovered to the
+//! same state. So a recovery that was stopped, or refused, is simply made again. `recover_after_stop` is what all of
+//! this is for: every answered call survives (`specs/Survival.antt`).
+//!
+//! *Proved:*
+//! - **Every answered call survives** any stop of any list of events, the others whole or not: `recover_after_stop`,
+//!   `survives`.
+//! - The world of any contents has the tree that they store; nobody uses it: `recover`, `tree`, `stores`, `idle`. What
+//!   a stop leaves of a recovery, even a refused one, is recovered alike: `recover`, `stop`, `stop_refused`.
+//! - Contents that a world may leave are refused only for a device or memory: `recover`, `never`, `fault`. A refusal
+//!   names its cause, a wrong size, damage or the first bad record: `recover`, `size`, `damaged`, `bad_log`.
+//! - The empty tree is made over any bytes: `format`, `tree`, `contents`. Media come out again: `take_apart`, `media`.
+//!
+//! *Tested only:* 24 device calls, reads too, that fail under a recovery, and some in calls behind it: each is a fault,
+//! and nothing is lost (`tests/recovery_tests`); nor by a growth that is refused (`tools/failing_allocations.py
+//! recoveries`).
+//!
+//! *Trusted:* `specs/Survival.antt` and the others that `docs/HEADLINE.md` lists; the kit's `atomic_table`.
 #![tactic(auto)]
 
 mod assembly;

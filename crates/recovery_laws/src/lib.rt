@@ -1,6 +1,17 @@
-//! What a format and a recovery may rest on: the bytes of media on which nothing stands yet, those of the shared area, with a root that has no entries, and those of a
-//! client's region; that these open and spell the empty tree; that what an opened medium spells is within the limits; and that the records that a recovery finds may be
-//! digested.
+//! What a format and a recovery rest on, and the bytes of media that hold nothing.
+//!
+//! The bytes are those of the empty shared area, with a root that has no entries, and of an empty region. The laws say
+//! that these open and spell the empty tree, that what an opened medium spells is within the limits, and that the
+//! records that a recovery finds may be digested.
+//!
+//! *Proved:*
+//! - Such a region has its size and generation, and a closed gate: `fresh_region_is_empty`, `size`, `header`, `closed`.
+//! - Fresh tiers open as an empty root, nothing digested: `first_fast_tier`; `fresh_area_opens`, `graph`, `undigested`.
+//! - Media that open spell nodes and entries within the limits: `openable_area_is_within_limits`.
+//! - No record that can be recovered is bad; its units are there: `recoverable_records_are_covered`, `never`,
+//!   `charged`.
+//!
+//! *Tested only:* nothing. *Trusted:* the kit's `byteorder`.
 #![tactic(auto)]
 
 mod area_laws;

@@ -1,7 +1,19 @@
 //! A run of a file's blocks is moved to a slower tier, on the shared media.
 //!
-//! The run is tested and read into one buffer. All that the file is then is made in memory: its new map and slot, the images of its extent blocks, and what it gives up.
-//! What is to be written goes as one plan to `area_commit`.
+//! The run is tested and read into one buffer. All that the file is then is made in memory: its new map and slot, the
+//! images of its extent blocks, and what it gives up.
+//!
+//! How a move is atomic: what is to be written goes to `area_commit` as one plan. The old blocks are free only after
+//! its batch.
+//!
+//! *Proved:*
+//! - At each moment a stop leaves the run where it was or all of it moved: `relocate`, `any_moment`, `moved`.
+//! - `NotMapped` says that it can't be moved, `NoBlock` that too few blocks are free: `relocate`, `not_mapped`,
+//!   `no_block`, `can`.
+//!
+//! *Tested only:* runs moved one after another (`tests/area_tests`).
+//!
+//! *Trusted:* nothing of its own.
 #![tactic(auto)]
 
 mod freed_places;

@@ -1,11 +1,19 @@
-//! The language of scripts: what each line of one asks, how its answer is printed, and what ends a run of one before its end.
+//! The language of scripts: what each line asks, how its answer is printed, and what ends a run before its end.
 //!
-//! `read_line` says what a line is: silent, a client and the call that it asks, or unreadable. It takes no memory, so that what
-//! can't be read never depends on it; `CallText::to_call` then builds the call. What words, numbers, flags, paths and bytes are
-//! is defined in `specs/Script.antt`, and what a line is in `specs/Lines.antt`. `read_system_line` reads the lines of a script over a running system, which
-//! has events beside calls (`specs/SystemLines.antt`).
+//! `read_line` says what a line is: silent, a client and the call that it asks, or unreadable. It takes no memory, so
+//! what can't be read never depends on it; `CallText::to_call` then builds the call. `specs/Script.antt` defines words,
+//! numbers, flags, paths and bytes, and `specs/Lines.antt` lines. `read_system_line` reads the lines of a script over a
+//! running system, which has events beside calls (`specs/SystemLines.antt`). `ScriptLines` reads a script line by line,
+//! and `write_reply` prints a reply.
 //!
-//! `ScriptLines` reads a script line by line, and `write_reply` prints a reply.
+//! *Proved:*
+//! - A line is a call, an event, silent or unreadable, as the language has it: `read_line`; `read_system_line`.
+//! - The call is the one that the line asks for: `CallText::to_call`; `cut_data_are_answered_alike`.
+//! - Lines are read in order, and refused as too long only if they are: `ScriptLines::read_next`, `line`, `too_long`.
+//!
+//! *Tested only:* printed text (rows of `strata_sh`).
+//!
+//! *Trusted:* nothing of its own.
 #![tactic(auto)]
 
 mod call_text;

@@ -1,9 +1,29 @@
-//! The shared area: a graph of inodes with its charge and marks, kept in the blocks of shared media.
+//! The shared area: a graph of inodes with its charge and marks, kept in the blocks of shared media, through every
+//! stop.
 //!
 //! Contracts speak of the medium alone, through `store_of`, `graph` and `marks` of `area_reader`.
 //!
-//! A change of the graph counts the data blocks that it wants, takes them, and is planned inode by inode (`change_plan`); the plan of all is written by `area_commit`,
-//! in one batch with the marks: at each moment a stop leaves the graph and the marks from before, or those after. The slot of each inode of the change is read once, before all else.
+//! A change of the graph reads the slot of each of its inodes once, counts the data blocks that it wants, takes them,
+//! and is planned inode by inode (`change_plan`).
+//!
+//! How a change is atomic: `area_commit` writes the plan of all inodes in one batch, with the marks. At each moment a
+//! stop leaves graph and marks from before, or both from after.
+//!
+//! *Proved:*
+//! - Media open exactly if they spell a graph; else damage is named: `Shared::reopen`, `opens`, `damaged`, `named`.
+//!   Reads tell what the graph has: `Shared::node`, `node`; `Shared::node_counts`, `counts`; `Shared::read_range`,
+//!   `bytes`.
+//! - At each moment of a change graph and marks are both before or both after: `Shared::apply`, `any_moment`,
+//!   `applied`. What is not written stays where it was; a hole that is only cut within stays one: `Shared::apply`,
+//!   `applied`.
+//! - `NoBlock` only if fewer blocks are free than it writes; never up to 512: `Shared::apply`, `no_block`, `never`.
+//! - At each moment of a move graph and marks are the same: `Shared::relocate`, `any_moment`, `moved`. It takes the
+//!   lowest free blocks: `Shared::relocate`, `no_block`, `can`, `lowest`. Between two calls a stop leaves media that
+//!   open to the same graph and marks: `Shared::left_now`, `same`.
+//!
+//! *Tested only:* small worlds, to the last free block (`tests/area_tests`).
+//!
+//! *Trusted:* nothing of its own.
 #![tactic(auto)]
 
 mod apply_laws;

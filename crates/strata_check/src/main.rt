@@ -1,6 +1,14 @@
-//! Prints what a file that keeps a world holds, and where it is damaged, without changing a byte of it. `strata_check --help` says what its lines mean.
+//! Prints what a file that keeps a world holds, and where it is damaged, without changing a byte of it. `strata_check
+//! --help` says what its lines mean.
 //!
-//! The file is read whole. Its shared medium and its regions are opened in memory, as they stand (`area`, `region_list`); then a second copy is recovered, whose tree is printed (`tree`).
+//! The file is read whole. Its shared medium and its regions are opened in memory, as they are (`area`, `region_list`);
+//! then a second copy is recovered, whose tree is printed (`tree`).
+//!
+//! *Proved:* nothing of its own but that it is safe, and returns, on any file.
+//!
+//! *Tested only:* what it prints (rows here; `tools/check_images` by hand).
+//!
+//! *Trusted:* as `host_media`; the kit's `clap`.
 #![tactic(auto)]
 
 mod area;

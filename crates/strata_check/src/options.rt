@@ -5,25 +5,26 @@ use std::alloc::{AllocError, Global};
 
 /// What its lines mean, as `strata_check --help` says it.
 const LINES: &str = "\
-What the media hold, as they stand:
+What the media hold, as they are:
   units U fast F block B slow S            their sizes, in units and data blocks
   charge X of U                            what the tree costs, in units
   free fast F block B slow S               data blocks that are free
   mark C generation G digested N           of each client, how far it is digested
-  region C even generation G records N bytes B      its regions: full, where no
+  region C even generation G records N bytes B      its regions: full if no
   region C odd generation G records N bytes B       further record has room
-Behind a region, where there is one:
+After a region, if there is one:
   begun C even bytes B       a record behind a closed gate: begun and not
                              answered, or left by an earlier generation
   open C even                an open gate that no record follows
 What recovery makes of them; a second copy in memory is recovered:
   recovered X of U           the units that the recovered tree costs
   PATH dir ENTRIES
-  PATH file SIZE NAMES fast F block B slow S hole H     where its blocks lie
-Where nothing is recovered, in their place:
+  PATH file SIZE NAMES fast F block B slow S hole H     where its blocks are
+If nothing is recovered, in their place:
   damaged STRUCTURE in block N
   bad record N of client C   it can't be digested; the first one is 0
   no world BYTES of WANTED   the file has not the length of its sizes
+A node costs a unit, and each 4 KiB of a file or directory one more.
 
 Status 0: recovered. 1: damaged. 2: unreadable words. 3: the file can't be
 read, another process has it open, or there is no memory.";

@@ -1,4 +1,10 @@
 //! Two clients make a call each in threads of their own, the run stops, and a recovery shows what was kept.
+//!
+//! *Proved:* nothing of its own: it is `run_first` of `thread_runs`.
+//!
+//! *Tested only:* what it prints (rows here).
+//!
+//! *Trusted:* nothing of its own.
 #![tactic(auto)]
 
 use std::process::ExitCode;

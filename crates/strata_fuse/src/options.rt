@@ -30,7 +30,7 @@ pub struct Options<'a> {
     pub disk: &'a str,
     /// The client that the mount is, from 1 on.
     pub client: u32,
-    /// How large a world is made where there is no file.
+    /// How large a world is made if there is no file.
     pub sizes: WorldSizes,
     /// To whom all files belong, and what others may do with them.
     pub owner: Owner,
@@ -55,7 +55,7 @@ const OPTIONS: [ProgramOption; 11] = [
         name: "disk",
         value: OptionValue::Text,
         value_name: "FILE",
-        help: "Keeps the world in FILE, which is made where it is not there",
+        help: "Keeps the world in FILE, which is made if it is not there",
     },
     ProgramOption {
         name: "client",

@@ -1,4 +1,11 @@
-//! Clients, workers and a migrator in threads of their own, over one kernel: each client makes calls of its own and compares their answers with those of a plain tree; at the end the media are recovered and compared too.
+//! Clients, workers and a migrator in threads of their own, over one kernel. Each client makes calls of its own and
+//! compares their answers with those of a plain tree; at the end the media are recovered and compared, too.
+//!
+//! *Proved:* nothing of its own: it is `run_threads` of `thread_runs`.
+//!
+//! *Tested only:* all that it compares: it is itself a test.
+//!
+//! *Trusted:* nothing of its own.
 #![tactic(auto)]
 
 use std::process::ExitCode;

@@ -1,4 +1,11 @@
-//! Answers a script of file system calls, read from standard input line by line, over a running system. `strata_sh --help` teaches the script's language.
+//! Answers a script of file system calls, read from standard input line by line, over a running system. `strata_sh
+//! --help` teaches the script's language.
+//!
+//! *Proved:* nothing of its own: it is `run_sh` of `workload_cli`.
+//!
+//! *Tested only:* what it prints (`stdin`, `stdout`: rows).
+//!
+//! *Trusted:* nothing of its own.
 #![tactic(auto)]
 
 use std::io::{BufReader, BufWriter};

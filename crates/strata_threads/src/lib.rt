@@ -1,13 +1,31 @@
 //! Clients, workers and a migrator in threads of their own, over one kernel under a lock.
 //!
-//! A client makes its calls by `ThreadClient::posix`: what a call needs it has served one need at a time, and between the turns it listens, that is, it gives what others ask back and takes its own region back. The
-//! regions that clients seal go to the workers by a queue, and come back by one for each client (`handoff`). Workers digest them (`Worker`), and a migrator moves runs of files down (`migrate`).
+//! A client makes its calls by `ThreadClient::posix`: what a call needs is served one need at a time, and between the
+//! turns the client listens: it gives what others ask back, and takes its own region back. The regions that clients
+//! seal go to the workers by a queue, and come back by one for each client (`handoff`). Workers digest them (`Worker`),
+//! and a migrator moves runs of files down (`migrate`). In a turn that is waited a lease is busy, or the client's
+//! sealed region is not back.
 //!
-//! As a call begins, its client hears the rows in which all inodes lie that it holds, and in a turn that was waited all rows; a row is emptied only where it shows something.
+//! As a call begins, its client hears the rows of all inodes that it holds, and in a turn that was waited all rows; a
+//! row is emptied only if it shows something.
 //!
-//! The lock is held for one need, one chunk or one run at a time; never while a client passes its gate or makes a device call on its own regions. What is promised: the kernel under the lock keeps its own invariant, so
-//! it stands at the end of one run of its machine; each sealed region is handed over once; a call is given up with EAGAIN after just as many turns as it was given, in each of which a lease was busy or the region that
-//! the client sealed was not back. That a call is answered at all is not promised.
+//! The lock is held for one need, one chunk or one run at a time; never while a client passes its gate or makes a
+//! device call on its own regions. The kernel under the lock keeps its own invariant, so it is at the end of one run of
+//! its machine. That a call is answered at all is not promised.
+//!
+//! *Proved:*
+//! - A call is given up with `EAGAIN` exactly if all its turns were used up: `ThreadClient::posix`, `turns`. Its client
+//!   may die in a call: `ThreadClient::posix_or_die`, `died`.
+//! - A region comes back digested: `ThreadClient::listen`; `ThreadClient::clear_log`. All have one table:
+//!   `ThreadSet::open`, `table`. A dead client's seat gets a new one: `ThreadRemains::into_client`, `exact`.
+//! - A client hears what it is asked for, and gives it, or is still asked: `ThreadClient::listen`, `listened`;
+//!   `ThreadClient::give_all`, `least`.
+//!
+//! *Tested only:* that calls in threads are answered and recovered as by a plain tree for each client, also if a region
+//! stops or a client dies (`strata_run`); that eight share a directory, none waits for a held one, sleepers wake,
+//! closed files go (`tests/thread_runs`).
+//!
+//! *Trusted:* the kit's `atomic_table` and `crossbeam_utils`.
 #![tactic(auto)]
 
 mod call_end;

@@ -1,16 +1,25 @@
-//! When a running system stands for a world over plain data (`world_invariant`), and that each event keeps it so.
+//! When a running system stands for a world over plain data (`world_invariant`), and that each event keeps it so. All
+//! functions are laws, cited by what plays events on a world.
 //!
-//! `specs/Relation.antt` says when (`IsWorldOf`): the kernel's book, graph and marks, each client, where its mark stands, and, once a device
-//! of the kernel has failed, what is left of the shared medium. What a stop leaves of the seventeen parts (`specs/Parts.antt`) is a fact of
-//! the system itself (`specs/Leaves.antt`). The file tree that a system stands for (`world_tree`) is read off what its parts hold, up to
-//! where the records of each client's log end, and off the clients' descriptors: no copy of a node or a record in memory counts.
+//! `specs/Relation.antt` says when (`IsWorldOf`): the kernel's book, graph and marks, each client, its mark, and, once
+//! a device of the kernel has failed, what is left of the shared medium. What a stop leaves of the seventeen parts
+//! (`specs/Parts.antt`) is a fact of the system itself (`specs/Leaves.antt`). The file tree that a system stands for
+//! (`world_tree`) is read off what its parts hold, up to where the records of each client's log end, and off the
+//! clients' descriptors: no copy of a node or a record in memory counts.
 //!
-//! A law for each kind of event says that the new system stands for a world again, what the event acknowledges, and that whatever a stop
-//! leaves from its beginning to its end is what a recovery takes (`CanRecover`), and stores (`stored_state`) the tree before it, settled,
-//! with some of the calls that were not answered then (`specs/Steps.antt`). Which outcome an event has is stated by `System::play`, and by no
-//! law here. A system that nobody uses, as it is opened, stands for a world too (`specs/Idle.antt`).
+//! A law for each kind of event says that the new system stands for a world again, what the event acknowledges, and
+//! that whatever a stop leaves from its beginning to its end is what a recovery takes (`CanRecover`), and stores
+//! (`stored_state`) the tree before it, settled, with some of the calls that were not answered then
+//! (`specs/Steps.antt`). Which outcome an event has is stated by `System::play`, and by no law here. A system that is
+//! opened and not used stands for a world, too (`specs/Idle.antt`).
 //!
-//! There is no code: these are laws, cited by what plays events on a world.
+//! *Proved:*
+//! - Each event keeps it so, and none is refused `BadLog`. One file tree is asked what the event answers or a settling
+//!   finds, and is left by a stop, settled, with some waiting calls: `played_event_is_a_step`, `never_bad`.
+//! - A system that is opened and not used stands for a world: `idle_system_stands_for_a_world`.
+//!
+//! *Tested only:* nothing. *Trusted:* `specs/WorldView.antt`, `Clocks`, `Moves` and `News` beside it, which
+//! `docs/HEADLINE.md` lists.
 #![tactic(auto)]
 
 mod deaths;

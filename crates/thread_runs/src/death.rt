@@ -20,7 +20,7 @@ pub(crate) const DIE: ProgramOption = ProgramOption {
     name: "die",
     value: OptionValue::Text,
     value_name: "C:K",
-    help: "End client C's thread behind its K-th device call, C from 1 to 8 and K from 1 on, and bury it while the others run",
+    help: "End client C's thread after its K-th device call, C from 1 to 8 and K from 1 on, and bury it while the others run",
 };
 
 /// The death that the words ask for, if they ask for one. Refused where `--die` has no value of its form.

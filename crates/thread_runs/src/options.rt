@@ -67,7 +67,7 @@ const OPTIONS: [ProgramOption; 8] = [
             most: 65_536,
         },
         value_name: "U",
-        help: "How many units the tree may cost, 2 to 65536; 1024 if left out",
+        help: "Units, one for each node and each 4 KiB, 2 to 65536; 1024 (4 MiB) if left out",
     },
     STOP,
     FILL,

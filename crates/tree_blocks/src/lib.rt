@@ -1,7 +1,13 @@
 //! One inode as its slot and its logical blocks.
 //!
-//! An `Inode` of `specs/Inode.antt` stands between the shared media and the graph of `file_graph`: the media spell it, and it is a node. `specs/After.antt` says what a
-//! net change of `graph_change` makes of its slot and its blocks.
+//! An `Inode` of `specs/Inode.antt` is between the shared media and the graph of `file_graph`: the media spell it, and
+//! it is a node. `specs/After.antt` says what a change of `graph_change` makes of its slot and its blocks.
+//!
+//! *Proved:*
+//! - Slot and blocks that are written for a change are the node after it: `inode_after_is_node_after`.
+//! - Entries go by name, up to 3,584: `Directory::find`, `found`, `absent`; `Directory::enter`, `entered`, `full`.
+//!
+//! *Tested only:* nothing. *Trusted:* the kit's `thiserror`.
 #![tactic(auto)]
 
 mod change_laws;

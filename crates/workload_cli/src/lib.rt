@@ -1,4 +1,19 @@
-//! The program `strata_sh` as a function over its words, its input, its output and its errors: a script is answered line by line over a running system, which is a kernel over fresh media and eight clients.
+//! The program `strata_sh` as a function of its words, its input, its output and its errors: a script is answered line
+//! by line over a running system, which is a kernel over fresh media, or those of a file, and eight clients.
+//!
+//! *Proved:*
+//! - The words are read as they say: `options_in`, `read`, `refused`. A line is answered by just the events that it
+//!   asks for, a dead client's by none: `answer_line`; `answer_all`.
+//! - Media rest with what a stop may leave of them, by their fills, and count by their names: `rest_parts`, `counted`.
+//!   What `recover` makes of them is the world of what they store; stops and failures are as armed: `Session::answer`.
+//! - A script's world begins as its file's image stores it, and empty without one: `image_world`; `patched_world`. A
+//!   run over an image keeps that of the media, at rest, that its lines left: `run_over_image`; `world_image`.
+//!
+//! *Tested only:* printed text and statuses (rows of `strata_sh`); failing streams, unreadable lines, flushes
+//! (`tests/shell_tests`); stops and failures everywhere (`tests/shell_tools`; `tools/stop_everywhere`,
+//! `tools/fail_everywhere` by hand).
+//!
+//! *Trusted:* as `host_media`, of `--disk` and `--image`.
 #![tactic(auto)]
 
 mod answer;

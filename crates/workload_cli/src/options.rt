@@ -11,16 +11,16 @@ use world_files::{BLOCK_OPTION, FAST_OPTION, SLOW_OPTION, UNITS_OPTION, WorldSiz
 /// The language of scripts, as `strata_sh --help` teaches it.
 const LANGUAGE: &str = "\
 A line is a client, 1 to 8, and its call, in words with one space between them.
-Behind each call here is what it prints; one that fails prints why, as ENOENT.
+After each call here is what it prints; one that fails prints why, as ENOENT.
   open PATH FLAGS          fd N            stat PATH    file SIZE NAMES
   pread FD OFFSET COUNT    bytes N DATA                 dir ENTRIES
   pwrite FD OFFSET DATA    wrote N         list PATH    names NAME NAME ...
 These print ok:
   close FD       truncate PATH LENGTH    mkdir PATH      rmdir PATH
   unlink PATH    link OLD NEW            rename OLD NEW  exchange PATH PATH
-What a call needs is served, and others hand over what they hold. Behind try
-they do not: then, or where one is dead or in the midst of a call, it prints
-blocked. Behind begin a call that writes is begun alone, and prints pending.
+What a call needs is served, and others hand over what they hold. With try
+they do not: then, or if one is dead or in the midst of a call, it prints
+blocked. With begin a call that writes is begun alone, and prints pending.
 
 Other lines, where C is a client:
   step C                              step, the call's answer, or idle
@@ -46,7 +46,8 @@ With --disk there is none of stop, halt and fail.
 PATH begins with /; in it, %hh is the byte of two hexadecimal digits, as %20.
 FLAGS are some of rwcxt, so ordered: read, write, create, exclusive, truncate.
 DATA are runs hhxN, a byte N times, joined by +, or - for none: 61x3+0ax1.
-Empty lines and lines from # on print nothing; an unreadable line ends the run.
+Empty lines and those that begin with # print nothing; an unreadable one ends
+the run. If no sizes are given, an image has 36847616 bytes, also an empty one.
 
 Example, with what its lines print:
   1 open /f rwc        fd 0
@@ -96,7 +97,7 @@ const OPTIONS: [ProgramOption; 9] = [
         name: "image",
         value: OptionValue::Text,
         value_name: "FILE",
-        help: "Reads the world from FILE, where there is one, and keeps it there at the end",
+        help: "Reads the world from FILE, if it is there, and keeps it there at the end",
     },
     ProgramOption {
         name: "disk",
@@ -126,8 +127,8 @@ const OPTIONS: [ProgramOption; 9] = [
 
 /// Reads what the words ask for. The first word is the program's name.
 ///
-/// Refused where `clap` finds a fault in the words, or they ask for help, where a size does not fit in 32 bits, where `--image` and `--disk`
-/// stand together, and where memory is wanting.
+/// Refused if `clap` finds a fault in the words, or they ask for help, if a size does not fit in 32 bits, if both `--image` and `--disk`
+/// are given, and if memory is wanting.
 pub fn read_options<'a>(alloc: Global, words: &'a [&'a str]) -> Result<Options<'a>, WordsError>
     ensures { Asks shell words.entry.now AreShellOptions HasBadValue result }
 {

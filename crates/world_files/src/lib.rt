@@ -1,8 +1,20 @@
-//! Worlds that live in files. A world's seventeen media lie in a file one behind the other: the tiers of the shared medium, then the two
-//! regions of client after client.
+//! Worlds that live in files. A world's seventeen media are in a file one behind the other: the tiers of the shared
+//! medium, then the two regions of client after client.
 //!
-//! `open_disk` has a world over the media of one locked file: what it answered stands there. An `ImageFile` is read whole, and written
-//! whole under another name that then takes its place.
+//! `open_disk` has a world over the media of one locked file: what it answered is in the file. An `ImageFile` is read
+//! whole, and written whole under another name that then takes its place: so the file has the old image or the new one.
+//!
+//! *Proved:*
+//! - Opening a file recovers its world, or says why not; without a file it makes an empty world: `open_path`,
+//!   `recovered`, `refused`, `made`.
+//! - An image is read as its superblock tells, else there is none: `read_parts`, `none`; `read_geometry`;
+//!   `image_bytes`.
+//! - Fresh media are zeros and rest: `zero_parts`, `zeros`. Bad sizes name their rule: `WorldSizes::geometry`, `rule`.
+//!
+//! *Tested only:* files that are cut, locked or can't be opened, full disks, kills (by hand: `tools/file_faults`,
+//! `tools/kill_after_answers`).
+//!
+//! *Trusted:* as `host_media`; the kit's `thiserror`.
 #![tactic(auto)]
 
 mod disk;

@@ -28,7 +28,7 @@ pub const UNITS_OPTION: ProgramOption = ProgramOption {
         most: 65_536,
     },
     value_name: "N",
-    help: "How many units the tree may cost, 2 to 65536; 1024 if left out",
+    help: "Units, one for each node and each 4 KiB, 2 to 65536; 1024 (4 MiB) if left out",
 };
 
 /// The option for its fast tier.

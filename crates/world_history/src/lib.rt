@@ -1,10 +1,22 @@
-//! One history of all that a kernel and its clients do, move by move, over plain data: no table, no thread.
+//! One history of all that a kernel and its clients do, move by move, over plain data: no table, no thread. All
+//! functions are laws.
 //!
-//! A move is a step of the world (`world_invariant`). Each part, which is the kernel, a client, or a client's region that is away,
-//! lists the moves in which it takes part; a history is one list of moves, each of which may follow those before it. `specs/Moves.antt`
-//! says what a move makes, `specs/Conditions.antt` when it may follow, `specs/Participants.antt` who takes part. The laws below say
-//! that nothing else has to be kept: that the world holds together, that the calls are one run of the file tree, and what each part
-//! knows of the others, follows from the lists.
+//! A move is a step of the world (`world_invariant`). Each part, which is the kernel, a client, or a client's region
+//! that is away, lists the moves in which it takes part; a history is one list of moves, each of which may follow those
+//! before it. `specs/Moves.antt` says what a move makes, `specs/Conditions.antt` when it may follow,
+//! `specs/Participants.antt` who takes part.
+//!
+//! *Proved:*
+//! - A history keeps the world coherent, and its calls are one run of the file tree: `history_is_a_run`, `coherent`,
+//!   `run`.
+//! - Kernel and clients are what their own moves make of them: `parts_are_their_own_moves`, `kernel`, `client`; leases
+//!   are those that were taken and not given since: `leases_are_those_taken`, `reads`, `writes`. The run begins with
+//!   what a client saw when it met others: `history_begins_with_what_was_seen`, `last`, `each`.
+//! - Parts that list moves of one history have one run of the file tree: `parts_together_have_one_run`; kernel and all
+//!   clients have the whole run: `all_parts_together_have_the_whole_run`, `run`, `consistent`. Each move that may
+//!   follow keeps them so: `said_move_keeps_parts_together`, `said`.
+//!
+//! *Tested only:* nothing. *Trusted:* nothing of its own.
 #![tactic(auto)]
 
 mod begun_call;

@@ -1,14 +1,15 @@
-//! What holds of a world between two steps, over plain data: no medium, no thread.
+//! What holds of a world between two steps, over plain data: no medium, no thread. All functions are laws.
 //!
-//! `specs/World.antt` says what there is: the kernel's part, and for each of eight clients its own. `specs/ClientParts.antt` and
-//! `specs/Invariant.antt` say what holds of it at any time; each law below is that a kind of step keeps it, and what becomes of the
-//! one file tree that the world stands for.
+//! `specs/World.antt` says what there is: the kernel's part, and for each of eight clients its own.
+//! `specs/ClientParts.antt` and `specs/Invariant.antt` say what holds of it at any time (`IsCoherent`); each law below
+//! is that a kind of step keeps it, and what becomes of the one file tree that the world stands for.
 //!
 //! # What each part of the invariant is for
 //!
-//! The invariant is all of its parts (`invariant_is_all_its_parts`, and `specs/Parts.antt` names them), and none follows from the others:
-//! for each there is a small world that lacks it and has all others (`each_part_breaks_alone`, and `specs/BrokenParts.antt` lists the
-//! worlds). In each of these worlds something goes wrong, at once or after steps that may be taken there; a law says what.
+//! The invariant is all of its parts (`invariant_is_all_its_parts`; `specs/Parts.antt` names them), and none follows
+//! from the others: for each there is a small world that lacks it and has all others (`each_part_breaks_alone`;
+//! `specs/BrokenParts.antt` lists the worlds). In each of these worlds something goes wrong, at once or after steps
+//! that may be taken there; a law says what.
 //!
 //! | part | what it says | world that lacks it alone | what goes wrong there |
 //! |---|---|---|---|
@@ -45,6 +46,20 @@
 //! | `LeasesLegal` | what one holds for writing no other holds | `watching root_alone` | `copy_beside_a_writer_goes_stale` |
 //! | `WholeSound` | the whole is sound | `rootless` | `stop_of_an_unsound_whole_is_not_recoverable` |
 //! | `WholeKnown` | each client knows it as it is | `stale` | `answer_by_a_stale_copy_is_no_step` |
+//!
+//! *Proved:*
+//! - A stop stores the tree of all answered calls and, whole or not at all, of each begun one:
+//!   `stop_stores_an_outcome`. A recovery may digest in any order and any chunks: `recovery_may_digest_records`,
+//!   `rest`, `same`, `within`.
+//! - An answer is one step of one file tree: `begun_call_is_a_step`, `step`; `call_without_a_record_is_a_step`, `step`.
+//!   A digest leaves the tree, in any order of the clients: `records_may_be_digested`, `tree`; `digests_commute`,
+//!   `same`.
+//! - Who holds an inode knows it by its own records and the shared node: `view_of_a_held_inode_is_the_wholes`. No file
+//!   is reclaimed that is open or gets a name: `open_file_is_not_reclaimed`; `nameless_file_stays_nameless`.
+//! - The kernel's calls are steps of the whole: `kernel_entries_are_steps_of_the_world`, `digest`, `reclaim`,
+//!   `migrate`.
+//!
+//! *Tested only:* nothing. *Trusted:* nothing of its own.
 #![tactic(auto)]
 
 mod book_laws;
