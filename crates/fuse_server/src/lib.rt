@@ -9,7 +9,8 @@
 //! - A message that takes a reply gets one, with its number, and no other does: `Server::answer`, `answered`,
 //!   `refused`.
 //! - Each request asks the calls that its node does, and is replied to as the tree answers, READDIR by OPENDIR's names;
-//!   a message that spells no request changes nothing: `Server::answer`, `served`, `unreplied`, `unspelled`.
+//!   a message that spells no request changes nothing: `Server::answer`, `served`, `unreplied`, `unspelled`. Each
+//!   change gets a later time than all before it: `Server::answer`, `times`.
 //!
 //! *Tested only:* that the tree of a mount is the world; programs on a mount, kills of the server
 //! (`tools/mount_tests`).

@@ -8,7 +8,10 @@
 //! *Proved:*
 //! - `RamMedia` answers no call with a device fault: `RamMedia::write`, `never`; `RamMedia::fence`, `never`.
 //! - A file is opened as a medium at rest that was synced: `FileMedia::open`, `at_rest`, `synced`, `works`. It is
-//!   parted into such media, one behind the other: `DiskFile::into_media`, `places`, `sizes`, `opened`.
+//!   parted into such media, one behind the other, and nothing in it is changed: `DiskFile::into_media`, `places`,
+//!   `sizes`, `opened`, `kept`.
+//! - Each tier is in its own place of the file, until a call fails: `FileMedia::stands_in_file`. A file's bytes are
+//!   known once they were read or written: `DiskFile::read`, `bytes`; `DiskFile::write`, `written`, `torn`.
 //! - After the first write or sync that fails, every call in range is a device fault: `FileMedia::write`, `failed`. A
 //!   fence syncs only a tier that was written since the last sync: `FileMedia::fence`, `quiet`, `sure`.
 //! - All that the system may keep, by the syncs that succeeded, the device model allows: `FileMedia::is_covered`. Media
@@ -18,8 +21,8 @@
 //! `layer_rows`); a kill, and system calls that are cut short or fail (`tools/kill_after_answers`,
 //! `tools/file_faults`).
 //!
-//! *Trusted:* that the system calls in `src/host.rt` and `src/shared_file.rt` do what the proof assumes, that a sync
-//! which succeeded keeps what was written, that nobody else writes the file; the kit's `thiserror`.
+//! *Trusted:* that three bodies note what the system did (`FileRange::read`, `FileRange::write`, `Host::sync`), that a
+//! sync which succeeded keeps what was written, that nobody else writes the file; the kit's `thiserror`.
 #![tactic(auto)]
 
 mod disk_file;

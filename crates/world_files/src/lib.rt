@@ -7,8 +7,8 @@
 //! *Proved:*
 //! - Opening a file recovers its world, or says why not; without a file it makes an empty world: `open_path`,
 //!   `recovered`, `refused`, `made`.
-//! - An image is read as its superblock tells, else there is none: `read_parts`, `none`; `read_geometry`;
-//!   `image_bytes`.
+//! - An image is read as its superblock tells, else there is none: `read_parts`, `read`, `none`; `read_geometry`;
+//!   `image_bytes`. One that is kept is whole: `ImageFile::replace`.
 //! - Fresh media are zeros and rest: `zero_parts`, `zeros`. Bad sizes name their rule: `WorldSizes::geometry`, `rule`.
 //!
 //! *Tested only:* files that are cut, locked or can't be opened, full disks, kills (by hand: `tools/file_faults`,
