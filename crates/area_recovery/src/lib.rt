@@ -4,7 +4,7 @@
 //! `open_area` opens the shared medium, and `reopen_regions` the regions.
 //! `settle_area` finds the records that count (`log_search`), digests them (`log_digest`), tests the graph (`graph_test`), drops the files that
 //! have no name (`file_drops`), and sets all marks (`mark_moves`). Each of these phases says of every content that a stop in it may leave that it
-//! is recovered to the same state (`specs/Recovers.antt`, `specs/Phases.antt`). Then `wipe_regions` wipes the regions.
+//! is recovered to the same state (`specs/Recovers.antt`, `specs/Phases.antt`). Then `wipe_region` wipes one region after the other.
 //!
 //! A format tests the sizes of all media (`check_sizes`), and writes the empty area and empty regions (`write_parts`, `specs/FreshContents.antt`).
 #![tactic(auto)]
@@ -33,7 +33,7 @@ pub use area_settlement::settle_area;
 pub use error::RecoveryError;
 pub use fresh_writes::write_parts;
 pub use region_list::{hand_back, put_first, put_last, reopen_regions};
-pub use region_wipes::wipe_regions;
+pub use region_wipes::wipe_region;
 pub use silent_laws::silent_regions_store_the_area;
 pub use size_check::check_sizes;
 
