@@ -11,7 +11,7 @@ set_here [] i x lt = absurd (omega (arith, lt))
 set_here (y ∷ ys) zero x lt = refl
 set_here (y ∷ ys) (suc i) x lt = set_here ys i x (omega (arith, lt))
 
-set_else : {X : Type 0} (xs : List X) (i k : ℕ) (x : X) → k ≢ i → slice_get (slice_set xs i x) k ≡ slice_get xs k
+pub set_else : {X : Type 0} (xs : List X) (i k : ℕ) (x : X) → k ≢ i → slice_get (slice_set xs i x) k ≡ slice_get xs k
 set_else [] i k x off = refl
 set_else (y ∷ ys) zero zero x off = absurd (off refl)
 set_else (y ∷ ys) zero (suc k) x off = refl

@@ -5,8 +5,8 @@ use Rattle.recovery_laws.specs.Contents.{CanRecover, stored_state}
 use Rattle.event_lists.specs.Courses.{PARTS, LeftBetween, WorldContent}
 use Rattle.recovery_laws.specs.layout.Places.{Sizes}
 use Rattle.area_recovery.specs.Parts.{contents_of}
-use Rattle.area_recovery.specs.PartMedia.{clocks_of, left_of}
-use Rattle.area_recovery.specs.RecoveryStops.{LeftMeanwhile, StaysStored, shared_moved}
+use Rattle.area_recovery.specs.Meanwhile.{LeftMeanwhile, clocks_of, left_of, shared_moved}
+use Rattle.area_recovery.specs.RecoveryStops.{StaysStored}
 use Rattle.area_recovery.proofs.RecoveredParts.{past_on}
 use Rattle.area_recovery.proofs.Staying.{SeenNow, split}
 

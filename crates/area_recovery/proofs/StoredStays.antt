@@ -14,10 +14,10 @@ use Rattle.recovery_laws.specs.layout.Places.{Sizes}
 use Rattle.posix_calls.specs.Operations.{is_client}
 use Rattle.posix_calls.specs.Tree.{State}
 use Rattle.area_recovery.specs.Parts.{contents_of}
-use Rattle.area_recovery.specs.PartMedia.{clocks_of, left_of}
+use Rattle.area_recovery.specs.Meanwhile.{clocks_of, left_of, shared_moved}
 use Rattle.area_recovery.specs.Phases.{StaysRecovered}
 use Rattle.area_recovery.specs.Recovers.{AreThese, Recovers, Regions}
-use Rattle.area_recovery.specs.RecoveryStops.{StaysStored, shared_moved}
+use Rattle.area_recovery.specs.RecoveryStops.{StaysStored}
 use Rattle.area_recovery.specs.Silent.{AreMarked, AreSilent, IsSilent}
 use Rattle.area_recovery.proofs.SilentRegions.{client_bounds, same_state}
 use Rattle.area_recovery.proofs.Staying.{SeenNow}

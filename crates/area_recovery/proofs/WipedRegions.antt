@@ -1,8 +1,8 @@
 -- One device call of a wipe counts nothing, at no moment.
-use Rattle.std.proofs.Common.{◌≡◌, ◌≢◌, inl, inr, ℕ, ◌+◌, ◌<◌, ◌≤◌, ◌^◌, List, [], length, drop, refl, ap, sym, ◌∙◌, subst, arith, ◌-◌, ◌/◌}
-use Rattle.std.specs.Prelude.{◌==◌, slice_get, slice_index, Some}
+use Rattle.std.proofs.Common.{◌≡◌, ◌≢◌, inl, inr, ℕ, ◌+◌, ◌<◌, ◌≤◌, ◌^◌, List, [], length, drop, refl, ap, sym, ◌∙◌, subst, arith}
+use Rattle.std.specs.Prelude.{◌==◌, slice_get, Some}
 use Rattle.std.proofs.lemmas.Option.{slice_get_cases}
-use Rattle.std.proofs.lemmas.Bool.{cases_Bool, cond-false, cond-true}
+use Rattle.std.proofs.lemmas.Bool.{cases_Bool, cases_lt, cond-false, cond-true}
 use Rattle.byteorder.specs.Endian.{little_bytes}
 use Rattle.byteorder.specs.Numbers.{little_number-reads_back}
 use Rattle.tier_device.specs.declared.media.Media.{Ghosts}
@@ -10,7 +10,7 @@ use Rattle.tier_device.specs.declared.media.Tier.{Tier}
 use Rattle.tier_device.specs.declared.media.Tier.TheVariants.{Fast, Block, Slow}
 use Rattle.tier_device.specs.Media.{Keeps, Puts}
 use Rattle.graph_check.specs.log_record.declared.format.Record.{Record}
-use Rattle.log_survey.specs.update_log.declared.format.TheConstants.{CLOSED}
+use Rattle.log_survey.specs.update_log.declared.format.TheConstants.{CLOSED, REGION_SIZE}
 use Rattle.log_survey.specs.update_log.declared.stage.Stage.{Stage}
 use Rattle.log_survey.specs.update_log.declared.stage.Stage.TheVariants as stages
 use Rattle.log_survey.specs.update_log.Frames.{header, records}
@@ -22,10 +22,7 @@ use Rattle.log_survey.proofs.update_log_lemmas.Counts.{other_counts_none, wiped_
 use Rattle.log_survey.specs.update_log.Moments.{PastStays}
 use Rattle.log_survey.specs.update_log.Stage.{IsIdle}
 use Rattle.log_survey.proofs.update_log_lemmas.Views.{since_more}
-use Rattle.area_recovery.specs.Silent.{GoesOn, IsSilent, IsWipingTo, AreLeftOf, AreSilent, LeftOfRegion, MayBeWiped, StaysSilent, calls_ahead}
-use Rattle.area_recovery.specs.Recovers.{Regions}
-use Rattle.area_recovery.specs.Regions.{place_of}
-use Rattle.area_recovery.proofs.SilentRegions.{client_bounds}
+use Rattle.area_recovery.specs.Silent.{GoesOn, IsSilent, IsWiped, IsWipingTo, LeftOfRegion, MayBeWiped, StaysSilent, calls_ahead}
 
 none_counts : (k : ℕ) (content : List ℕ) → records content ≡ [] → records_under k content ≡ []
 none_counts k content none = elim (cases_Bool (generation content == k)) [
@@ -152,6 +149,21 @@ fewer stages.Closed gate h can = omega arith
 fewer stages.Naming gate h can = omega arith
 fewer stages.WipeFailed gate h can = absurd can
 
+-- so some are ahead while it goes on
+pub some_ahead : (s : Stage) → IsWiping s → CanWipe s → 1 ≤ calls_ahead s
+some_ahead s h can = let less = fewer s 0 h can in omega (arith, less)
+
+-- and three at most behind the first one
+gate_ahead : (gate : ℕ) → calls_ahead (first_stage gate) ≤ 3
+gate_ahead gate = elim (cases_Bool (gate == CLOSED)) [
+  | inl t ↦ subst (λ s. calls_ahead s ≤ 3) (sym (cond-true (gate == CLOSED) stages.Naming stages.Closing t)) (omega arith)
+  | inr f ↦ subst (λ s. calls_ahead s ≤ 3) (sym (cond-false (gate == CLOSED) stages.Naming stages.Closing f)) (omega arith)
+]
+
+pub first_ahead : (s : Stage) (gate : ℕ) → IsIdle s → calls_ahead (wipe_next s gate) ≤ 3
+first_ahead s gate (inl is) = subst (λ s. calls_ahead (wipe_next s gate) ≤ 3) (sym is) (gate_ahead gate)
+first_ahead s gate (inr is) = subst (λ s. calls_ahead (wipe_next s gate) ≤ 3) (sym is) (gate_ahead gate)
+
 idle_can : (s : Stage) → IsIdle s → CanWipe s
 idle_can s (inl is) = subst CanWipe (sym is) tt
 idle_can s (inr is) = subst CanWipe (sym is) tt
@@ -182,19 +194,49 @@ module _ {M : Type 0} (device : Ghosts M) (g name : ℕ) where
   silent_through old mid new past earlier last = since_more _ _ _ _ _ (IsSilent g) past earlier last
 
   -- a region that is not touched
-  pub stays_silent : (v : RegionView M) → MayBeWiped device g v → StaysSilent device g v v
-  stays_silent v may = record {
-    silent = λ c left.
-        let now : left.0 ≡ device.moment v.media = omega (arith, left.1, left.2) in
-        let is : c ≡ device.seen v.media Fast = may.rests c (subst (λ m. device.left v.media m Fast c) now left.3) in
-        subst (IsSilent g) (sym is) (record {
-          long = may.long;
-          own = other_counts_none g (device.seen v.media Fast) may.not_own;
-          next = other_counts_none (next_generation g) (device.seen v.media Fast) may.not_next;
-        });
+  pub still_silent : (v : RegionView M) → ((c : List ℕ) → device.left v.media (device.moment v.media) Fast c → IsSilent g c) → StaysSilent device g v v
+  still_silent v silent = record {
+    silent = λ c left. silent c (subst (λ m. device.left v.media m Fast c) (now left.0 left.1 left.2) left.3);
     past = record { later = omega arith; nothing_else = λ m t c le h. h; keeps = λ m t c le h. h };
     size = λ h. h;
     faults = omega arith;
+  }
+    where
+      now : (m : ℕ) → device.moment v.media ≤ m → m ≤ device.moment v.media → m ≡ device.moment v.media
+      now m low high = omega (arith, low, high)
+
+  -- of a region that may be wiped, and of one that is wiped, a stop leaves what counts nothing
+  pub ahead_silent : (v : RegionView M) → MayBeWiped device g v → (c : List ℕ) → device.left v.media (device.moment v.media) Fast c → IsSilent g c
+  ahead_silent v may c left = subst (IsSilent g) (sym (may.rests c left)) (record {
+    long = may.long;
+    own = other_counts_none g (device.seen v.media Fast) may.not_own;
+    next = other_counts_none (next_generation g) (device.seen v.media Fast) may.not_next;
+  })
+
+  pub wiped_silent : (v : RegionView M) → IsWiped device name v → length (device.seen v.media Fast) ≡ REGION_SIZE → (c : List ℕ) → device.left v.media (device.moment v.media) Fast c → IsSilent g c
+  wiped_silent v wiped long c left = subst (IsSilent g) (sym (wiped.rests c left)) (record {
+    long = long;
+    own = none_counts g (device.seen v.media Fast) wiped.none;
+    next = none_counts (next_generation g) (device.seen v.media Fast) wiped.none;
+  })
+
+  -- and over one that is touched once more
+  pub silent_on : (u v w : RegionView M) → StaysSilent device g u v → StaysSilent device g v w → StaysSilent device g u w
+  silent_on u v w first next = record {
+    silent = λ c since. elim (cases_lt (device.moment v.media) since.0) [
+      | inl later ↦ next.silent c (since.0, omega (arith, later), since.2, since.3)
+      | inr le ↦ first.silent c (since.0, since.1, le, next.past.nothing_else since.0 Fast c le since.3)
+    ];
+    past =
+        (let low = first.past.later in
+        let high = next.past.later in
+        record {
+          later = omega (arith, low, high);
+          nothing_else = λ m t x le h. first.past.nothing_else m t x le (next.past.nothing_else m t x (omega (arith, le, low)) h);
+          keeps = λ m t x le h. next.past.keeps m t x (omega (arith, le, low)) (first.past.keeps m t x le h);
+        });
+    size = λ h. next.size (first.size h);
+    faults = (let low = first.faults in let high = next.faults in omega (arith, low, high));
   }
 
 -- a region whose past stays keeps its size
@@ -215,14 +257,3 @@ some_at xs k lt = elim ((slice_get_cases xs k).1) [
   | inl here ↦ (here.0, here.2)
   | inr past ↦ absurd (let le = past.0 in omega (arith, le, lt))
 ]
-
-module _ {M : Type 0} (device : Ghosts M) (generations : List ℕ) (old new : List (RegionView M)) (all : length old ≡ 16) (all_new : length new ≡ 16)
-    (each : (k : ℕ) (v w : RegionView M) → slice_get old k ≡ Some v → slice_get new k ≡ Some w → StaysSilent device (slice_index generations (k / 2)) v w) where
-  pub all_silent : (left : Regions) → AreLeftOf device old new left → AreSilent generations left
-  all_silent left is c r is_c low =
-      let bounds = client_bounds c is_c in
-      let place : place_of c r < 16 = omega (arith, bounds.0, bounds.1, low) in
-      let half : place_of c r / 2 ≡ c - 1 = omega (arith, bounds.0, low) in
-      let v = some_at old (place_of c r) (omega (arith, place, all)) in
-      let w = some_at new (place_of c r) (omega (arith, place, all_new)) in
-      subst (λ k. IsSilent (slice_index generations k) (left c r)) half ((each (place_of c r) v.0 w.0 v.1 w.1).silent (left c r) (is c r v.0 w.0 is_c low v.1 w.1))

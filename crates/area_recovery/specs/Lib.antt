@@ -8,6 +8,7 @@ pub mod FoundLogs
 pub mod Silent
 pub mod Parts
 pub mod PartMedia
+pub mod Meanwhile
 pub mod RecoveryStops
 pub mod Settlement
 pub mod DigestedLogs

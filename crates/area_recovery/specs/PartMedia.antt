@@ -1,8 +1,7 @@
 -- The media beneath an area and regions as parts, and what becomes of them.
 use Rattle.std.specs.Prelude.{ℕ, ◌<◌, List}
 use Rattle.tier_device.specs.declared.media.Media.{Ghosts}
-use Rattle.tier_device.specs.AfterStop.{Left}
-use Rattle.event_lists.specs.Courses.{PARTS, LeftOf, Reading}
+use Rattle.event_lists.specs.Courses.{PARTS}
 use Rattle.tier_device.specs.Media.{Rose}
 use Rattle.log_survey.specs.update_log.View.{RegionView}
 use Rattle.recovery_laws.specs.batch_journal.View.{JournalView}
@@ -14,14 +13,6 @@ abbrev pub media_beneath : {M : Type 0} → JournalView M → List (RegionView M
 media_beneath area regions = record { shared = area.media; regions = media_of regions }
 
 module _ {M : Type 0} (device : Ghosts M) where
-  -- the clocks of all parts
-  abbrev pub clocks_of : (ℕ → M) → Reading
-  clocks_of media p = device.moment (media p)
-
-  -- what a stop at a moment of a part's clock may have left of that part
-  abbrev pub left_of : (ℕ → M) → LeftOf
-  left_of media p m content = Left (device.left (media p)) m content
-
   -- of each part nothing has changed but the count of failed calls
   abbrev pub AreUntouched : (ℕ → M) → (ℕ → M) → Type 0
   AreUntouched old new = (p : ℕ) → p < PARTS → IsUntouched device (old p) (new p)

@@ -1,5 +1,5 @@
 -- What a recovery leaves of the parts at each of its moments, and what it makes of their contents.
-use Rattle.std.specs.Prelude.{◌≡◌, ◌≢◌, ◌⊎◌, ℕ, zero, suc, ◌<◌}
+use Rattle.std.specs.Prelude.{◌≡◌, ◌≢◌, ℕ, ◌<◌}
 use Rattle.tier_device.specs.declared.media.Media.{Ghosts}
 use Rattle.log_survey.specs.update_log.Moments.{PastStays}
 use Rattle.recovery_laws.specs.batch_journal.Volume.{IsVolume}
@@ -9,27 +9,17 @@ use Rattle.graph_check.specs.call_effects.ClosedGraph.{nobody}
 use Rattle.graph_check.specs.call_effects.Wholes.{IsSound}
 use Rattle.log_survey.specs.world_invariant.Logs.{LogsAreApart}
 use Rattle.recovery_laws.specs.layout.Places.{Sizes}
-use Rattle.event_lists.specs.Courses.{PARTS, LeftBetween, Reading, WorldContent}
+use Rattle.event_lists.specs.Courses.{PARTS, WorldContent}
 use Rattle.recovery_laws.specs.Contents.{CanRecover, log_in, stored_graph, stored_state}
 use Rattle.area_recovery.specs.declared.error.RecoveryError.{RecoveryError}
 use Rattle.area_recovery.specs.declared.error.RecoveryError.TheVariants.{DeviceFault}
 use Rattle.area_recovery.specs.DigestedLogs.{CanDigestAll}
 use Rattle.area_recovery.specs.FaultOrMemory.{IsFaultOrMemory}
 use Rattle.area_recovery.specs.Parts.{AreAtRest, contents_of}
-use Rattle.area_recovery.specs.PartMedia.{SomeRose, clocks_of, left_of}
-
--- the readings once the shared medium has moved, and no region has
-abbrev pub shared_moved : Reading → Reading → Reading
-shared_moved old new zero = new 0
-shared_moved old new (suc p) = old (suc p)
+use Rattle.area_recovery.specs.Meanwhile.{LeftMeanwhile}
+use Rattle.area_recovery.specs.PartMedia.{SomeRose}
 
 module _ {M : Type 0} (device : Ghosts M) where
-  -- a stop may have left the contents meanwhile: first the shared medium moves, alone, and then the regions
-  abbrev pub LeftMeanwhile : (ℕ → M) → (ℕ → M) → WorldContent → Type 0
-  LeftMeanwhile old new c =
-      LeftBetween (left_of device new) (clocks_of device old) (shared_moved (clocks_of device old) (clocks_of device new)) c
-      ⊎ LeftBetween (left_of device new) (shared_moved (clocks_of device old) (clocks_of device new)) (clocks_of device new) c
-
   -- The past of no part changes, and whatever a stop leaves meanwhile is recovered as what was read is, to the same state.
   pub record StaysStored (old new : ℕ → M) : Type 0 where
     pub past : (p : ℕ) → p < PARTS → PastStays (device.moment (old p)) (device.moment (new p)) (device.left (old p)) (device.left (new p))

@@ -47,11 +47,6 @@ wiped_name g r = if g % 2 == r then g else next_generation g
 abbrev pub LeftOfRegion : {M : Type 0} → Ghosts M → RegionView M → RegionView M → List ℕ → Type 0
 LeftOfRegion device old new c = LeftSince (device.left new.media) (device.moment new.media) (device.moment old.media) Fast c
 
--- Whatever a stop has left of each region, each from its old moment on.
-abbrev pub AreLeftOf : {M : Type 0} → Ghosts M → List (RegionView M) → List (RegionView M) → Regions → Type 0
-AreLeftOf device old new regions = (client r : ℕ) (v w : RegionView _) → is_client client ≡ true → r < 2 → slice_get old (place_of client r) ≡ Some v → slice_get new (place_of client r) ≡ Some w
-    → LeftOfRegion device v w (regions client r)
-
 -- A region that is wiped to a generation: it rests, has no record, names the generation, and a stop leaves what a read gives.
 pub record IsWiped {M : Type 0} (device : Ghosts M) (g : ℕ) (r : RegionView M) : Type 0 where
   pub stage : r.stage ≡ stages.Resting

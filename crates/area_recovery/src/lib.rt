@@ -3,8 +3,8 @@
 //!
 //! `open_area` opens the shared medium, and `reopen_regions` the regions. `settle_area` finds the records that count
 //! (`log_search`), digests them (`log_digest`), tests the graph (`graph_test`), drops the files that have no name
-//! (`file_drops`), and sets all marks (`mark_moves`). Then `wipe_regions` wipes the regions. A format tests the sizes
-//! of all media (`check_sizes`), and writes the empty area and empty regions (`write_parts`,
+//! (`file_drops`), and sets all marks (`mark_moves`). Then `wipe_region` wipes one region after the other. A format
+//! tests the sizes of all media (`check_sizes`), and writes the empty area and empty regions (`write_parts`,
 //! `specs/FreshContents.antt`).
 //!
 //! How it is atomic: each phase says of every content that a stop in it may leave that it is recovered to the same
@@ -12,8 +12,8 @@
 //!
 //! *Proved:*
 //! - All that counts in the logs is brought into the area, whose graph is sound and stands for the stored tree,
-//!   settled; no record counts any more: `settle_area`, `settles`. Then the regions are wiped; at each moment the same
-//!   tree is stored: `wipe_regions`, `recovers`.
+//!   settled; no record counts any more: `settle_area`, `settles`. Then the regions are wiped, one by one; at no moment
+//!   a record counts: `wipe_region`, `stays`.
 //! - The shared medium opens, or its damage is named: `open_area`, `opens`, `damaged`, `named`.
 //!
 //! *Tested only:* device calls that fail under each phase (`tests/recovery_tests`).
@@ -46,7 +46,7 @@ pub use area_settlement::settle_area;
 pub use error::RecoveryError;
 pub use fresh_writes::write_parts;
 pub use region_list::{hand_back, put_first, put_last, reopen_regions};
-pub use region_wipes::wipe_regions;
+pub use region_wipes::wipe_region;
 pub use silent_laws::silent_regions_store_the_area;
 pub use size_check::check_sizes;
 

@@ -1,52 +1,31 @@
-// Regions that are wiped.
-ghost use Rattle.std.specs.Prelude.{◌≡◌, ◌≤◌, ◌%◌, ◌/◌, ℕ, List, length, slice_index, Some, IfErr, IfOk, OnErr, OnOk, slice_get};
+// A region that is wiped.
+ghost use Rattle.std.specs.Prelude.{◌≡◌, ◌≤◌, ◌+◌, ℕ, List, IfErr, IfOk, OnErr, OnOk};
 ghost use Rattle.tier_device.specs.Media.{Keeps, Rose};
-ghost use Rattle.log_survey.specs.update_log.View.{RegionView};
 ghost use Rattle.log_survey.specs.update_log.Wipe.{wipe_next};
 ghost use Rattle.log_survey.specs.update_log.Moments.{PastStays};
-ghost use Rattle.event_lists.specs.Courses.{Content};
-ghost use Rattle.recovery_laws.specs.layout.Places.{Sizes};
-ghost use Rattle.posix_calls.specs.Tree.{State};
 ghost use Rattle.area_recovery.specs.declared.error.RecoveryError.TheVariants.{DeviceFault};
-ghost use Rattle.area_recovery.specs.Recovers.{Recovers, Regions};
-ghost use Rattle.area_recovery.specs.Regions.{HaveRisen, REGIONS, media_of};
-ghost use Rattle.area_recovery.specs.Silent.{AreLeftOf, AreMarked, AreSilent, GoesOn, IsSilent, IsWiped, IsWipingTo, LeftOfRegion, MayBeWiped, StaysSilent, wiped_name};
+ghost use Rattle.area_recovery.specs.Silent.{GoesOn, IsSilent, IsWiped, IsWipingTo, LeftOfRegion, MayBeWiped, StaysSilent, wiped_name};
 
 use crate::error::RecoveryError;
 use recovery_laws::in_update_log::{Region, RegionError, WipeProgress};
 use tier_device::Media;
 
-/// Wipes the sixteen regions, in their order: those of a client to its generation and the next one. Of each client, neither region has a record that
-/// counts under its generation or the next.
+/// Wipes a region of a client to the client's generation or the next one, that with the remainder of the region's generations by two: by four device calls at most.
 ///
-/// At each moment that stays so, whatever a stop leaves of each region, also where a device fails; that is the one refusal. Each region keeps its size.
-pub fn wipe_regions<M: Media>(
-    regions: &mut [Region<M>],
-    generations: &[u64],
+/// At no moment a record of it counts under the client's generation or the next, whatever a stop leaves, also where a device fails; that is the one refusal. It keeps its size.
+pub fn wipe_region<M: Media>(
+    region: &mut Region<M>,
+    generation: u64,
+    remainder: usize,
 ) -> Result<(), RecoveryError>
-    requires all { length regions.old ≡ REGIONS }
-    requires clients { length generations.now ≡ 8 }
-    requires ready { (k : ℕ) (v : RegionView _) → slice_get regions.old k ≡ Some v → MayBeWiped M.Media (slice_index generations.now (k / 2)) v }
-
-    ensures len { length regions.new ≡ REGIONS }
-    ensures any_moment { (left : Regions) → AreLeftOf M.Media regions.old regions.new left → AreSilent generations.now left }
-    // So with a shared medium that has marks of these generations, under which no record is done, the stored state is the same whatever is left.
-    ensures recovers { (g : Sizes) (state : State) (shared : Content) (others left : Regions) → AreMarked generations.now shared → AreSilent generations.now others
-        → Recovers g others state shared → AreLeftOf M.Media regions.old regions.new left → Recovers g left state shared }
-    ensures each { (k : ℕ) (v w : RegionView _) → slice_get regions.old k ≡ Some v → slice_get regions.new k ≡ Some w → StaysSilent M.Media (slice_index generations.now (k / 2)) v w }
-    ensures wiped { OnOk result ((k : ℕ) (w : RegionView _) → slice_get regions.new k ≡ Some w → IsWiped M.Media (wiped_name (slice_index generations.now (k / 2)) (k % 2)) w) }
+    requires ready { MayBeWiped M.Media generation region.old }
+    ensures stays { StaysSilent M.Media generation region.old region.new }
+    ensures wiped { OnOk result (IsWiped M.Media (wiped_name generation remainder) region.new) }
+    ensures at_most { M.moment region.new.media ≤ M.moment region.old.media + 4 }
     ensures only { IfErr result (λ e. e ≡ DeviceFault) }
-    ensures fault { IfErr result (λ e. e ≡ DeviceFault → HaveRisen M.Media (media_of regions.old) (media_of regions.new)) }
+    ensures fault { OnErr result (Rose (M.faults region.old.media) (M.faults region.new.media)) }
 {
-    for place in 0..regions.len() {
-        let generation = generations[place / 2];
-        wipe_region(
-            &mut regions[place],
-            generation,
-            wiped_generation(generation, place % 2),
-        )?;
-    }
-    Ok(())
+    wipe_to(region, generation, wiped_generation(generation, remainder))
 }
 
 // The generation that a region is wiped to: of the client's and the next that with the region's remainder.
@@ -61,7 +40,7 @@ fn wiped_generation(generation: u64, remainder: usize) -> u64
 }
 
 // Wipes a region to a generation; no record of it counts under the client's generation or the next, at no moment.
-fn wipe_region<M: Media>(
+fn wipe_to<M: Media>(
     region: &mut Region<M>,
     generation: u64,
     name: u64,
@@ -70,6 +49,7 @@ fn wipe_region<M: Media>(
     ensures any_moment { (c : List ℕ) → LeftOfRegion M.Media region.old region.new c → IsSilent generation c }
     ensures past { PastStays (M.moment region.old.media) (M.moment region.new.media) (M.left region.old.media) (M.left region.new.media) }
     ensures wiped { OnOk result (IsWiped M.Media name region.new) }
+    ensures at_most { M.moment region.new.media ≤ M.moment region.old.media + 4 }
     ensures faults { M.faults region.old.media ≤ M.faults region.new.media }
     ensures only { IfErr result (λ e. e ≡ DeviceFault) }
     ensures fault { OnErr result (Rose (M.faults region.old.media) (M.faults region.new.media)) }

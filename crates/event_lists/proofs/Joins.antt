@@ -1,6 +1,6 @@
 -- Courses, one after another.
-use Rattle.std.proofs.Common.{◌≡◌, ℕ, zero, suc, ◌+◌, ◌-◌, ◌≤◌, ◌<◌, min, inl, inr, sym, ap, ◌∙◌, subst, cond, nat_lt, arith}
-use Rattle.std.proofs.lemmas.Bool.{cases_eq, cases_lt, cond_above, cond_below}
+use Rattle.std.proofs.Common.{◌≡◌, ℕ, zero, suc, ◌+◌, ◌-◌, ◌≤◌, ◌<◌, min, inl, inr, sym, ap, ◌∙◌, subst, arith}
+use Rattle.std.proofs.lemmas.Bool.{cases_eq, cases_lt}
 use Rattle.event_lists.specs.Courses.{PARTS, Content, WorldContent, LeftOf, Reading, MovesOne, Pace, IsCourse, LeftAt, LeftBetween}
 
 -- the clock of no part goes back where one part moves at most
@@ -26,24 +26,6 @@ within_course pace n course is k p le part =
     let up : course k p ≤ course (k + (n - k)) p = rises (n - k) k p course part (λ j lt. is.one_part j (omega (arith, lt, le))) in
     let same : course (k + (n - k)) p ≡ course n p = ap (λ j. course j p) (omega (arith, le)) in
     omega (arith, up, same)
-
--- so many of one list, and then the other
-abbrev pub after_first : {A : Type 0} → ℕ → (ℕ → A) → (ℕ → A) → ℕ → A
-after_first n first next k = cond (nat_lt k n) (first k) (next (k - n))
-
-module _ {A : Type 0} (n : ℕ) (first next : ℕ → A) (meet : first n ≡ next 0) where
-  pub late : (j : ℕ) → after_first n first next (n + j) ≡ next j
-  late j = sym (cond_above (n + j) n (first (n + j)) (next (n + j - n)) (next j) (omega arith) (ap next (omega arith)))
-
-  pub up_to : (k : ℕ) → k ≤ n → after_first n first next k ≡ first k
-  up_to k le = elim (cases_lt k n) [
-    | inl lt ↦ sym (cond_below k n (first k) (next (k - n)) lt)
-    | inr ge ↦ let is : k ≡ n = omega (arith, le, ge) in
-        ap (after_first n first next) (is ∙ plus_none n) ∙ late 0 ∙ sym meet ∙ ap first (sym is)
-  ]
-    where
-      plus_none : (n : ℕ) → n ≡ n + 0
-      plus_none n = omega arith
 
 -- a place behind the first n
 back : (n k : ℕ) → n ≤ k → n + (k - n) ≡ k

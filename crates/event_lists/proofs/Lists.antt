@@ -5,8 +5,7 @@ use Rattle.std.proofs.lemmas.Bool.{cases_lt}
 use Rattle.std.proofs.lemmas.List.{take-append-le}
 use Rattle.std.proofs.lemmas.Option.{none-some, same_Some}
 use Rattle.event_lists.specs.Outcome.{Unfinished}
-use Rattle.event_lists.proofs.Joins.{after_first, late, up_to}
-use Rattle.event_lists.specs.Courses.{Ledger, News, Reading, both, ledger, pace_of, no_news, AreMade}
+use Rattle.event_lists.specs.Courses.{Ledger, News, Reading, both, ledger, pace_of, no_news, AreMade, states_of}
 
 -- an element of the first list is at its place in the whole
 pub get_left : {A : Type 0} (xs ys : List A) (k : ℕ) → k < length xs → slice_get (xs ++ ys) k ≡ slice_get xs k
@@ -19,6 +18,12 @@ pub get_front : {A : Type 0} (xs ys : List A) (k : ℕ) (x : A) → slice_get xs
 get_front [] ys k x got = absurd (none-some x got)
 get_front (a ∷ xs) ys zero x got = got
 get_front (a ∷ xs) ys (suc k) x got = get_front xs ys k x got
+
+-- where an element is, there is a place
+pub placed : {A : Type 0} (xs : List A) (k : ℕ) (x : A) → slice_get xs k ≡ Some x → k < length xs
+placed [] k x got = absurd (none-some x got)
+placed (a ∷ xs) zero x got = omega arith
+placed (a ∷ xs) (suc k) x got = let lt = placed xs k x got in omega (arith, lt)
 
 -- there is one at each place
 pub element : {A : Type 0} (xs : List A) (k : ℕ) → k < length xs → (x : A) × (slice_get xs k ≡ Some x)
@@ -96,67 +101,65 @@ module _ {E : Type 0} (moves : E → Reading → Reading → Type 0) where
   pub paced_behind : (events more : List E) (k : ℕ) (a b : Reading) → pace_of moves more k a b → pace_of moves (events ++ more) (length events + k) a b
   paced_behind events more k a b paced e got = paced e (sym (get_right events more k) ∙ got)
 
--- one state, and then another
-abbrev pub first_then : {S : Type 0} → S → S → ℕ → S
-first_then first last zero = first
-first_then first last (suc k) = last
+-- places of the first list have its states in the whole
+pub states_before : {S : Type 0} (first : S) (noted later : List S) (k : ℕ) → k ≤ length noted → states_of first (noted ++ later) k ≡ states_of first noted k
+states_before first noted later zero le = refl
+states_before first [] later (suc k) le = absurd (omega (arith, le))
+states_before first (s ∷ noted) later (suc k) le = states_before s noted later k (omega (arith, le))
+
+-- and those behind it have those of the next list, from the last one of the first on
+pub states_behind : {S : Type 0} (first : S) (noted later : List S) (j : ℕ) → states_of first (noted ++ later) (length noted + j) ≡ states_of (states_of first noted (length noted)) later j
+states_behind first [] later j = ap (states_of first later) (omega arith)
+states_behind first (s ∷ noted) later j = ap (states_of first (s ∷ noted ++ later)) (turn (length noted) j) ∙ states_behind s noted later j
+  where
+    turn : (n j : ℕ) → suc n + j ≡ suc (n + j)
+    turn n j = omega arith
 
 module _ {S E O : Type 0} (makes : S → E → O → S → Type 0) where
-  -- what is made by one list and then by another is made by both
-  pub made_on : (first mid last : S) (events more : List E) (outcomes others : List O) (states states' : ℕ → S)
-      → AreMade makes first events outcomes mid states → AreMade makes mid more others last states'
-      → AreMade makes first (events ++ more) (outcomes ++ others) last (after_first (length events) states states')
-  made_on first mid last events more outcomes others states states' one next =
-      record {
-        count = length-append outcomes others ∙ both_counts (length outcomes) (length events) (length others) (length more) one.count next.count ∙ sym (length-append events more);
-        from = here 0 (omega arith) ∙ one.from;
-        to = ap whole (length-append events more) ∙ there (length more) ∙ next.to;
-        each = λ k e o got got'. elim (cases_lt k n) [
-          | inl early ↦ subst (λ s. makes s e o (whole (k + 1))) (sym (here k (omega (arith, early)))) (subst (λ s. makes (states k) e o s) (sym (here (k + 1) (omega (arith, early))))
-              (one.each k e o (sym (get_left events more k early) ∙ got) (sym (get_left outcomes others k (within k n (length outcomes) one.count early)) ∙ got')))
-          | inr late ↦ subst (λ i. makes (whole i) e o (whole (i + 1))) (back k late)
-              (subst (λ s. makes s e o (whole (n + (k - n) + 1))) (sym (there (k - n))) (subst (λ s. makes (states' (k - n)) e o s) (sym (ap whole (one_more n (k - n)) ∙ there (k - n + 1)))
-              (next.each (k - n) e o
-              (sym (get_right events more (k - n)) ∙ ap (slice_get (events ++ more)) (back k late) ∙ got)
-              (sym (get_right outcomes others (k - n)) ∙ ap (λ m. slice_get (outcomes ++ others) (m + (k - n))) one.count ∙ ap (slice_get (outcomes ++ others)) (back k late) ∙ got'))))
-        ];
-      }
-    where
-      n : ℕ
-      n = length events
+  -- What is made by one list and then by another is made by both: the states of the whole are those of the one and then those of the other.
+  module _ (n : ℕ) (whole states states' : ℕ → S) (here : (k : ℕ) → k ≤ n → whole k ≡ states k) (there : (j : ℕ) → whole (n + j) ≡ states' j) where
+    pub made_on : (first mid last : S) (events more : List E) (outcomes others : List O) → n ≡ length events
+        → AreMade makes first events outcomes mid states → AreMade makes mid more others last states'
+        → AreMade makes first (events ++ more) (outcomes ++ others) last whole
+    made_on first mid last events more outcomes others long one next =
+        record {
+          count = length-append outcomes others ∙ both_counts (length outcomes) (length events) (length others) (length more) one.count next.count ∙ sym (length-append events more);
+          from = here 0 (omega arith) ∙ one.from;
+          to = ap whole (length-append events more ∙ ap (λ m. m + length more) (sym long)) ∙ there (length more) ∙ next.to;
+          each = λ k e o got got'. elim (cases_lt k n) [
+            | inl early ↦ subst (λ s. makes s e o (whole (k + 1))) (sym (here k (omega (arith, early)))) (subst (λ s. makes (states k) e o s) (sym (here (k + 1) (omega (arith, early))))
+                (one.each k e o (sym (get_left events more k (early_of k n (length events) long early)) ∙ got) (sym (get_left outcomes others k (within k n (length events) (length outcomes) long one.count early)) ∙ got')))
+            | inr late ↦ subst (λ i. makes (whole i) e o (whole (i + 1))) (back k late)
+                (subst (λ s. makes s e o (whole (n + (k - n) + 1))) (sym (there (k - n))) (subst (λ s. makes (states' (k - n)) e o s) (sym (ap whole (one_more n (k - n)) ∙ there (k - n + 1)))
+                (next.each (k - n) e o
+                (sym (get_right events more (k - n)) ∙ ap (λ m. slice_get (events ++ more) (m + (k - n))) (sym long) ∙ ap (slice_get (events ++ more)) (back k late) ∙ got)
+                (sym (get_right outcomes others (k - n)) ∙ ap (λ m. slice_get (outcomes ++ others) (m + (k - n))) (one.count ∙ sym long) ∙ ap (slice_get (outcomes ++ others)) (back k late) ∙ got'))))
+          ];
+        }
+      where
+        back : (k : ℕ) → n ≤ k → n + (k - n) ≡ k
+        back k le = omega (arith, le)
 
-      whole : ℕ → S
-      whole = after_first n states states'
+        one_more : (a b : ℕ) → a + b + 1 ≡ a + (b + 1)
+        one_more a b = omega arith
 
-      meet : states n ≡ states' 0
-      meet = one.to ∙ sym next.from
+        early_of : (k a b : ℕ) → a ≡ b → k < a → k < b
+        early_of k a b same lt = omega (arith, same, lt)
 
-      here : (k : ℕ) → k ≤ n → whole k ≡ states k
-      here = up_to n states states' meet
+        within : (k a b c : ℕ) → a ≡ b → c ≡ b → k < a → k < c
+        within k a b c same also lt = omega (arith, same, also, lt)
 
-      there : (j : ℕ) → whole (n + j) ≡ states' j
-      there = late n states states' meet
-
-      back : (k : ℕ) → n ≤ k → n + (k - n) ≡ k
-      back k le = omega (arith, le)
-
-      one_more : (a b : ℕ) → a + b + 1 ≡ a + (b + 1)
-      one_more a b = omega arith
-
-      within : (k a b : ℕ) → b ≡ a → k < a → k < b
-      within k a b same lt = omega (arith, same, lt)
-
-      both_counts : (a b c d : ℕ) → a ≡ b → c ≡ d → a + c ≡ b + d
-      both_counts a b c d x y = omega (arith, x, y)
+        both_counts : (a b c d : ℕ) → a ≡ b → c ≡ d → a + c ≡ b + d
+        both_counts a b c d x y = omega (arith, x, y)
 
   -- one event makes the second of two states
-  pub made_one : (first last : S) (e : E) (o : O) → makes first e o last → AreMade makes first (e ∷ []) (o ∷ []) last (first_then first last)
+  pub made_one : (first last : S) (e : E) (o : O) → makes first e o last → AreMade makes first (e ∷ []) (o ∷ []) last (states_of first (last ∷ []))
   made_one first last e o is = record { count = refl; from = refl; to = refl; each = each }
     where
-      each : (k : ℕ) (d : E) (p : O) → slice_get (e ∷ []) k ≡ Some d → slice_get (o ∷ []) k ≡ Some p → makes (first_then first last k) d p (first_then first last (k + 1))
+      each : (k : ℕ) (d : E) (p : O) → slice_get (e ∷ []) k ≡ Some d → slice_get (o ∷ []) k ≡ Some p → makes (states_of first (last ∷ []) k) d p (states_of first (last ∷ []) (k + 1))
       each zero d p got got' = subst (λ x. makes first x p last) (same_Some e d got) (subst (λ x. makes first e x last) (same_Some o p got') is)
       each (suc k) d p got got' = absurd (none-some d got)
 
   -- no event makes anything
-  pub made_none : (now : S) → AreMade makes now [] [] now (λ k. now)
+  pub made_none : (now : S) → AreMade makes now [] [] now (states_of now [])
   made_none now = record { count = refl; from = refl; to = refl; each = λ k e o got got'. absurd (none-some e got) }

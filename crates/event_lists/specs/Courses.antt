@@ -1,6 +1,6 @@
 -- Trusted: headline
 -- What a stop leaves of several media that have a clock each, the course of a list of events over them, and what is acknowledged on it.
-use Rattle.std.specs.Prelude.{◌≡◌, ◌≢◌, ℕ, ◌+◌, ◌-◌, ◌*◌, ◌≤◌, ◌<◌, min, List, [], ◌∷◌, ◌++◌, length, Some, slice_get}
+use Rattle.std.specs.Prelude.{◌≡◌, ◌≢◌, ℕ, zero, suc, ◌+◌, ◌-◌, ◌*◌, ◌≤◌, ◌<◌, min, List, [], ◌∷◌, ◌++◌, length, Some, slice_get}
 use Rattle.tier_device.specs.declared.media.Tier.{Tier}
 use Rattle.posix_calls.specs.Run.{Turn}
 use Rattle.posix_calls.specs.declared.limits.TheConstants.{MAX_CLIENTS}
@@ -91,6 +91,12 @@ ledger news calls (e ∷ events) [] = no_news calls
 ledger news calls (e ∷ events) (o ∷ outcomes) = both (news calls e o) (ledger news (news calls e o).calls events outcomes)
 
 -- ---- what events make
+
+-- the states before, between and behind events, of which those behind each event were noted: the first, and then these
+abbrev pub states_of : {S : Type 0} → S → List S → ℕ → S
+states_of first noted zero = first
+states_of first [] (suc k) = first
+states_of first (s ∷ noted) (suc k) = states_of s noted k
 
 -- These are the states before, between and behind the events: each event, with its outcome, makes the next one of the one before.
 pub record AreMade {S E O : Type 0} (makes : S → E → O → S → Type 0) (first : S) (events : List E) (outcomes : List O) (last : S) (states : ℕ → S) : Type 0 where

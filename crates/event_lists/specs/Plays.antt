@@ -2,7 +2,7 @@
 use Rattle.std.specs.Prelude.{◌≡◌, ◌↔◌, ℕ, ◌≤◌, ◌<◌, List, length, take}
 use Rattle.posix_calls.specs.Run.{Run}
 use Rattle.event_lists.specs.Outcome.{IsOutcome}
-use Rattle.event_lists.specs.Courses.{PARTS, AreMade, Content, IsCourse, LeftAt, LeftBetween, Ledger, Reading, WorldContent, ledger, no_news, pace_of}
+use Rattle.event_lists.specs.Courses.{PARTS, AreMade, Content, IsCourse, LeftAt, LeftBetween, Ledger, Reading, WorldContent, ledger, no_news, pace_of, states_of}
 use Rattle.event_lists.specs.declared.recoverable.Recoverable.{Ghosts}
 
 module _ {S E O : Type 0} (g : Ghosts S E O) where
@@ -48,19 +48,19 @@ module _ {S E O : Type 0} (g : Ghosts S E O) where
   abbrev pub clocks : (ℕ → S) → ℕ → Reading
   clocks states k = g.clock (states k)
 
-  -- The events, with these outcomes, lead from the old to the new.
-  pub record Plays (old : S) (events : List E) (outcomes : List O) (new : S) : Type 0 where
+  -- The events, with these outcomes, lead from the old to the new; behind each of them the state was noted.
+  pub record Plays (old : S) (events : List E) (outcomes : List O) (noted : List S) (new : S) : Type 0 where
     -- the replies are those of one file tree, asked in the order of the replies
     pub run : Run (g.tree old) (ledger g.news (g.calls old) events outcomes).turns (g.tree new)
     -- what is unfinished is what the ledger has
     pub calls : g.calls new ≡ (ledger g.news (g.calls old) events outcomes).calls
-    -- there are the states before, between and behind the events, each event leading to the next ..
-    pub states : ℕ → S
-    pub effects : AreMade Leads old events outcomes new states
-    -- .. whose clocks are a course ..
-    pub course : IsCourse (pace_of g.moves events) (length events) (clocks states)
+    -- one state was noted for each event, and each event leads to the next ..
+    pub each_noted : length noted ≡ length events
+    pub effects : AreMade Leads old events outcomes new (states_of old noted)
+    -- .. their clocks are a course ..
+    pub course : IsCourse (pace_of g.moves events) (length events) (clocks (states_of old noted))
     -- .. and whatever a stop may have left at a place of it is recovered
-    pub stop : (k : ℕ) (c : WorldContent) → k ≤ length events → LeftAt (g.left new) (length events) (clocks states) k c → StopsAt old events outcomes k c
+    pub stop : (k : ℕ) (c : WorldContent) → k ≤ length events → LeftAt (g.left new) (length events) (clocks (states_of old noted)) k c → StopsAt old events outcomes k c
     -- what it leaves now is recovered to the new tree
     pub now : IsRecovered new
     -- what it may have left before stays as it was ..

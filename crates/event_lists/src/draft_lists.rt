@@ -4,7 +4,7 @@ ghost use Rattle.event_lists.specs.Plays.{Plays};
 ghost use Rattle.event_lists.specs.GatedDraft.{calls_of, can_take, clock_of, left_of, makes_of, moves_of, news_of, stored_by, tree_of};
 
 use crate::gated_draft::{DraftEvent, DraftOutcome, GatedDraft};
-use crate::play::play_all;
+use crate::play::{Outcomes, play_all};
 use crate::recoverable::Recoverable;
 use crate::steps::Steps;
 use std::alloc::{AllocError, Global};
@@ -52,8 +52,8 @@ pub fn play_list(
     alloc: Global,
     draft: &mut GatedDraft,
     events: &[DraftEvent],
-) -> Result<Vec<DraftOutcome>, AllocError>
-    ensures plays { IfOk result (λ outcomes. Plays ⟦<GatedDraft as Recoverable<DraftEvent, DraftOutcome>>⟧ draft.old events.now outcomes.items draft.new) }
+) -> Result<Outcomes<DraftOutcome, GatedDraft>, AllocError>
+    ensures plays { IfOk result (λ outcomes. Plays ⟦<GatedDraft as Recoverable<DraftEvent, DraftOutcome>>⟧ draft.old events.now outcomes.items.items outcomes.noted.items draft.new) }
 {
     play_all(alloc, draft, events)
 }

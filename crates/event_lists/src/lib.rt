@@ -12,10 +12,11 @@
 //! events is one at the beginning of the next. So a promise for the ends of the events alone says too little
 //! (`LeftAt`), and a reply counts from the end of its event on (`StopsAt`).
 //!
-//! The readings of a course are the clocks of states that the events lead to, each of which keeps the past of the one
-//! before (`Leads`), and not any that fit the clocks at both ends: else what a stop leaves in one event could be set
-//! against the ledger of another. So `Plays` is what a system promises of a list; `EachStop`, which is of some readings
-//! in pace, follows from it and says less. Over one event the readings are those at entry and exit.
+//! The readings of a course are the clocks of the states behind the events, which were noted as they were (`Noted`),
+//! and not any that fit the clocks at both ends: else what a stop leaves in one event could be set against the ledger
+//! of another, and the calls of two parts could have been made in another order than their events. Each of these states
+//! keeps the past of the one before (`Leads`). So `Plays` is what a system promises of a list; `EachStop`, which is of
+//! some readings in pace, follows from it and says less.
 //!
 //! Two small instances (`draft_lists`, `fenced_media`), with small cases of the definitions in `proofs/`, show that
 //! what holds of every list can be met.
@@ -33,11 +34,13 @@ mod draft_lists;
 mod fenced_media;
 mod gated_draft;
 mod laws;
+mod noted;
 mod play;
 mod recoverable;
 mod steps;
 
 pub use laws::{each_stop_is_recovered, one_list_plays_as_two, two_lists_play_as_one};
-pub use play::play_all;
+pub use noted::Noted;
+pub use play::{Outcomes, play_all};
 pub use recoverable::Recoverable;
 pub use steps::Steps;

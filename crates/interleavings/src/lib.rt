@@ -48,7 +48,7 @@ pub mod in_client_plan {
 
 /// Of `event_lists`, what the crates above name.
 pub mod in_event_lists {
-    pub use system_laws::in_event_lists::Steps;
+    pub use system_laws::in_event_lists::{Outcomes, Steps};
 }
 
 /// Of `event_steps`, what the crates above name.

@@ -6,19 +6,19 @@ ghost use Rattle.system_laws.specs.Steps.{recoverable};
 
 use crate::world::World;
 use std::alloc::{AllocError, Global};
-use system_laws::in_event_lists::play_all;
+use system_laws::in_event_lists::{Outcomes, play_all};
 use system_laws::in_event_steps::{Event, Outcome};
 use tier_device::Media;
 
 /// Plays events, one after the other, and gives the outcome of each: the replies are those of one file tree, and whatever a stop leaves
-/// at any moment of the list is recovered to that tree. Refused for want of memory alone, before the first event, and then nothing has
-/// changed.
+/// at any moment of the list is recovered to that tree. What the world was behind each event is noted, for clauses alone. Refused for want
+/// of memory alone, before the first event, and then nothing has changed.
 pub fn play<M: Media + Drop>(
     alloc: Global,
     world: &mut World<M>,
     events: &[Event],
-) -> Result<Vec<Outcome>, AllocError>
-    ensures plays { IfOk result (λ outcomes. Plays (recoverable M.Media) world.old events.now outcomes.items world.new) }
+) -> Result<Outcomes<Outcome, World<M>>, AllocError>
+    ensures plays { IfOk result (λ outcomes. Plays (recoverable M.Media) world.old events.now outcomes.items.items outcomes.noted.items world.new) }
     ensures refusal { OnErr result (world.new ≡ world.old) }
 {
     play_all(alloc, world, events)

@@ -1,6 +1,7 @@
 pub mod JoinedWorlds
 pub mod SurvivingCalls
 pub mod RecoveredWorlds
+pub mod SettledRegions
 pub mod SystemParts
 pub mod OpenedLogs
 pub mod OpenedSeats

@@ -2,6 +2,7 @@ pub mod Assembly
 pub mod Survival
 pub mod SeatRegions
 pub mod WorldRecovery
+pub mod SettledParts
 -- Handed on to the crates above, which list only the highest of what they name.
 pub use Rattle.area_recovery.specs as area_recovery
 pub use Rattle.interleavings.specs.event_lists

@@ -71,7 +71,7 @@ pub mod in_client_plan {
 
 /// Of `event_lists`, what the crates above name.
 pub mod in_event_lists {
-    pub use event_lists::{Recoverable, Steps, play_all};
+    pub use event_lists::{Outcomes, Recoverable, Steps, play_all};
 }
 
 /// Of `event_steps`, what the crates above name.

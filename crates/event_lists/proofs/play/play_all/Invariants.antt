@@ -8,5 +8,5 @@ invariant-loop-event g l =
     record {
       count : length l.outcomes.items ≡ l.event-index;
       room : length l.events ≤ vec_capacity l.outcomes;
-      plays : Plays g.S.Recoverable l.fn.steps (take l.event-index l.events) l.outcomes.items l.steps;
+      plays : Plays g.S.Recoverable l.fn.steps (take l.event-index l.events) l.outcomes.items l.noted.items l.steps;
     }
