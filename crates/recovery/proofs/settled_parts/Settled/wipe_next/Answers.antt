@@ -1,7 +1,6 @@
 use Rattle.std.proofs.Common.{◌≡◌, ◌+◌, ap, refl, sym, ◌∙◌, subst, arith}
-use Rattle.std.specs.Prelude.{slice_get, slice_index_or, slice_set, Some}
+use Rattle.std.specs.Prelude.{slice_get, slice_set, Some}
 use Rattle.std.proofs.lemmas.Option.{get_or_from_slice_get}
-use Rattle.interleavings.specs.update_log.View.{RegionView}
 use Rattle.area_recovery.specs.PartMedia.{media_beneath}
 use Rattle.area_recovery.specs.Regions.{media_of}
 use Rattle.recovery.specs.SettledParts.{IsSettled, SettledView, WipesNext, FailsToWipe}
