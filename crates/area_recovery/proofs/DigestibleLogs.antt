@@ -1,5 +1,5 @@
 -- Logs whose records can be digested.
-use Rattle.std.proofs.Common.{◌≡◌, ℕ, ◌-◌, ◌<◌, ◌≤◌, true, List, sym, subst, arith}
+use Rattle.std.proofs.Common.{◌≡◌, ℕ, ◌-◌, ◌≤◌, true, List, sym, subst, arith}
 use Rattle.log_survey.proofs.world_invariant_lemmas.Owners as owners
 use Rattle.graph_check.specs.file_graph.Graph.{Graph}
 use Rattle.graph_check.specs.log_record.declared.format.Record.{Record}

@@ -15,7 +15,6 @@ use Rattle.graph_check.specs.file_graph.Graph.{Graph}
 use Rattle.log_survey.specs.world_invariant.Logs.{after_clients, is_written}
 use Rattle.posix_calls.specs.Operations.{is_client}
 use Rattle.area_recovery.specs.declared.error.RecoveryError.{RecoveryError}
-use Rattle.area_recovery.specs.Parts.{contents_of}
 use Rattle.area_recovery.specs.Recovers.{AreThese}
 use Rattle.area_recovery.specs.RecoveryStops.{AreGivenBack, StaysStored, StoresTree}
 use Rattle.area_recovery.proofs.JoinedRegions.{counted_by}

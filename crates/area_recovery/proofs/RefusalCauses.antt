@@ -1,5 +1,5 @@
 -- The causes of refusals, phase by phase.
-use Rattle.std.proofs.Common.{◌≡◌, ◌⊎◌, inl, inr, ℕ, zero, suc, ◌+◌, ◌-◌, ◌/◌, ◌%◌, ◌<◌, ◌≤◌, true, List, [], ◌∷◌, take, length, ap, sym, ◌∙◌, subst, arith}
+use Rattle.std.proofs.Common.{◌≡◌, ◌⊎◌, inl, inr, ℕ, zero, suc, ◌+◌, ◌-◌, ◌/◌, ◌%◌, ◌<◌, true, List, [], ◌∷◌, take, length, ap, sym, ◌∙◌, subst, arith}
 use Rattle.std.specs.List.{AllByRecursion, AllZip}
 use Rattle.std.specs.Prelude.{Err, Ok, OnOk, Result, Some, slice_get, slice_index_or}
 use Rattle.recovery_laws.specs.shared_area.AreaOpen.{IsMediumDamage, SpellsNone}

@@ -23,7 +23,7 @@ module _ {M : Type 0} (device : Ghosts M) where
   -- The past of no part changes, and whatever a stop leaves meanwhile is recovered as what was read is, to the same state.
   pub record StaysStored (old new : ℕ → M) : Type 0 where
     pub past : (p : ℕ) → p < PARTS → PastStays (device.moment (old p)) (device.moment (new p)) (device.left (old p)) (device.left (new p))
-    pub stop : (g : Sizes) (c : WorldContent) → CanRecover g (contents_of device old) → LeftMeanwhile old new c → CanRecover g c × (stored_state g c ≡ stored_state g (contents_of device old))
+    pub stop : (g : Sizes) (c : WorldContent) → CanRecover g (contents_of device old) → LeftMeanwhile device old new c → CanRecover g c × (stored_state g c ≡ stored_state g (contents_of device old))
 
 -- The contents store a tree: the shared medium opens, no inode is in the records of two clients, each record that counts can be digested, and the graph after all of them is sound.
 pub record StoresTree (g : Sizes) (c : WorldContent) : Type 0 where

@@ -1,5 +1,5 @@
 -- Regions in which nothing counts.
-use Rattle.std.specs.Prelude.{◌≡◌, ℕ, ◌<◌, ◌≤◌, ◌-◌, ◌%◌, ◌==◌, ◌≢◌, true, List, [], length, slice_get, slice_index, Some, if◌then◌else◌}
+use Rattle.std.specs.Prelude.{◌≡◌, ℕ, ◌<◌, ◌≤◌, ◌-◌, ◌%◌, ◌==◌, ◌≢◌, true, List, [], length, slice_index, Some, if◌then◌else◌}
 use Rattle.tier_device.specs.declared.media.Media.{Ghosts}
 use Rattle.tier_device.specs.declared.media.Tier.TheVariants.{Fast}
 use Rattle.tier_device.specs.AfterStop.{AtRest}
@@ -22,7 +22,6 @@ use Rattle.event_lists.specs.Courses.{Content}
 use Rattle.area_recovery.specs.Recovers.{Regions}
 use Rattle.log_survey.specs.update_log.Stage.{IsIdle}
 use Rattle.log_survey.specs.update_log.Moments.{PastStays}
-use Rattle.area_recovery.specs.Regions.{place_of}
 
 -- A region has its length, and no record of it counts under this generation or the next.
 pub record IsSilent (g : ℕ) (content : List ℕ) : Type 0 where

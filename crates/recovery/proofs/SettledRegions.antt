@@ -90,7 +90,7 @@ module _ {M : Type 0} (device : Ghosts M) (seen_now : SeenNow device) (lengths :
   low_place : (vs : List (RegionView M)) → length vs ≡ REGIONS → (k : ℕ) (v : RegionView M) → slice_get vs k ≡ Some v → k < 16
   low_place vs all k v at = let within = slice_get_within vs k v at in omega (arith, within, all)
 
-  there : (vs : List (RegionView M)) → length vs ≡ REGIONS → (k : ℕ) → k < 16 → (v : RegionView M) × (slice_get vs k ≡ Some v)
+  pub there : (vs : List (RegionView M)) → length vs ≡ REGIONS → (k : ℕ) → k < 16 → (v : RegionView M) × (slice_get vs k ≡ Some v)
   there vs all k low = some_at vs k (omega (arith, low, all))
 
   -- ---- what holds of the regions between two wipes

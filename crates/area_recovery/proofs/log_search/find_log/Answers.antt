@@ -1,4 +1,4 @@
-use Rattle.std.proofs.Common.{rules, ◌<◌, length, ◌∙◌, sym, subst, arith}
+use Rattle.std.proofs.Common.{rules, ◌∙◌, sym, subst, arith}
 use Rattle.log_survey.specs.update_log.Frames.{records}
 use Rattle.log_survey.specs.update_log.RecordCounts.{next_generation}
 use Rattle.log_survey.specs.Owners.{AreAdded, IsClear, owner}

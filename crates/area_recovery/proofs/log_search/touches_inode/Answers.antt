@@ -1,4 +1,4 @@
-use Rattle.std.proofs.Common.{rules, tests, List, ℕ, ap, ◌∙◌}
+use Rattle.std.proofs.Common.{rules, tests, ap, ◌∙◌}
 use Rattle.std.specs.Prelude.{◌==◌}
 use Rattle.std.proofs.lemmas.Iterator.{YieldsList-from_slice}
 use Rattle.std.proofs.lemmas.Iterator.Search.{any_from_yields_List}

@@ -1,4 +1,4 @@
-use Rattle.std.proofs.Common.{rules, ◌≡◌, ◌<◌, ◌+◌, ◌≤◌, ap, sym, subst, arith}
+use Rattle.std.proofs.Common.{rules, ◌≡◌, ◌<◌, ap, sym, subst, arith}
 use Rattle.tier_device.specs.declared.media.Tier.TheVariants.{Fast}
 use Rattle.log_survey.specs.update_log.declared.stage.WipeProgress.TheVariants.{Going}
 use Rattle.area_recovery.specs.Silent.{GoesOn, calls_ahead}
