@@ -12,6 +12,7 @@ pub mod Consistent
 pub mod Together
 pub mod MayBeSaid
 pub mod Entries
+pub mod Generations
 pub mod SmallHistories
 pub mod Listings
 pub mod Whole

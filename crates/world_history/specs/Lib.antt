@@ -9,6 +9,7 @@ pub mod Parts
 pub mod Locality
 pub mod Together
 pub mod FiniteParts
+pub mod Generations
 pub mod SmallHistory
 -- Handed on to the crates above, which list only the highest of what they name.
 pub use Rattle.world_invariant.specs as world_invariant

@@ -28,7 +28,7 @@ pub use opening_data::OpeningData;
 pub use opening_laws::{clients_alone_count, configuration_can_be_listed};
 pub use part_laws::{
     away_region_is_its_own_moves, entries_are_listed_twice, leases_are_those_taken,
-    parts_are_their_own_moves,
+    marks_name_regions, parts_are_their_own_moves,
 };
 pub use together_laws::{
     all_parts_together_have_the_whole_run, client_and_kernel_may_say, clients_may_meet,

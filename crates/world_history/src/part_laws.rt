@@ -5,7 +5,8 @@ ghost use Rattle.posix_calls.specs.Operations.{is_client};
 ghost use Rattle.world_invariant.specs.Invariant.{IsCoherent};
 ghost use Rattle.world_invariant.specs.LeaseSteps.{IsUnheld, IsUnwritten};
 ghost use Rattle.world_history.specs.declared.moves.Move.{Move};
-ghost use Rattle.world_history.specs.Configuration.{Configuration, away_in, world_of};
+ghost use Rattle.world_history.specs.Configuration.{Configuration, IsConsistent, away_in, world_of};
+ghost use Rattle.world_history.specs.Generations.{began_with, seals_of, waiting_in, wholes_of};
 ghost use Rattle.world_history.specs.History.{IsHistory, after_moves};
 ghost use Rattle.world_history.specs.Participants.{OfClient, OfKernel, OfRegion, moves_of};
 ghost use Rattle.world_history.specs.Parts.{away_after, client_after, entries_of, kernel_after, reads_after, writes_after};
@@ -33,4 +34,11 @@ pub fn leases_are_those_taken()
 /// The kernel lists as many entries of a client as the client and its region that is away list of the kernel.
 pub fn entries_are_listed_twice()
     ensures { (c : ℕ) (h : List Move) → is_client c ≡ true → entries_of c (moves_of OfKernel h) ≡ entries_of c (moves_of (OfClient c) h) + entries_of c (moves_of (OfRegion c) h) }
+{}
+
+/// A mark names the region of its client that waits to be digested, or else the one that the client writes: the client's log moves on by a
+/// generation with each region that it hands over, and the mark with each that is digested whole, and between the two there is one at most.
+pub fn marks_name_regions()
+    ensures { (s : Configuration) (c : ℕ) (h : List Move) → is_client c ≡ true → IsConsistent s → IsHistory s h
+        → seals_of (moves_of (OfClient c) h) + waiting_in (began_with c (away_in s c) h) ≡ wholes_of c s.kernel (moves_of OfKernel h) + waiting_in (away_in (after_moves s h) c) }
 {}
