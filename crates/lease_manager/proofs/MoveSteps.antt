@@ -1,5 +1,5 @@
 -- The history of moves, and what the words show of it, as one part changes.
-use Rattle.std.proofs.Common.{◌≡◌, ◌≢◌, inl, inr, ℕ, ◌+◌, ◌%◌, ◌^◌, ◌<◌, ◌≤◌, ◌||◌, cond, eqb, Bool, true, false, List, [], ◌∷◌, length, get_or, set, refl, sym, ap, ◌∙◌, subst, arith, get_or-set_same, get_or-set_other, eq-eqb, ne_eqb, true≢false}
+use Rattle.std.proofs.Common.{◌≡◌, ◌≢◌, ℕ, ◌+◌, ◌%◌, ◌^◌, ◌<◌, ◌≤◌, ◌||◌, cond, Bool, true, false, List, ◌∷◌, length, get_or, set, refl, sym, ap, ◌∙◌, subst, arith, get_or-set_same, get_or-set_other, eq-eqb, ne_eqb, true≢false}
 use mathlib.Core.Logic.{dite}
 use native.Mathlib.Decide.{ℕ_discrete}
 use Rattle.posix_calls.specs.Operations.{is_client}
@@ -9,7 +9,7 @@ use Rattle.world_history.specs.declared.moves.Move.TheVariants as moves
 use Rattle.world_history.specs.Conditions.{MayFollow}
 use Rattle.world_history.specs.Configuration.{plain, world_of}
 use Rattle.world_history.specs.History.{after_moves, SeesAll}
-use Rattle.world_history.specs.Participants.{OfClient, moves_of, participant_at, takes_part}
+use Rattle.world_history.specs.Participants.{OfClient, moves_of, participant_at}
 use Rattle.world_history.specs.Parts.{reads_after, writes_after}
 use Rattle.world_history.proofs.Leases.{unheld, unwritten}
 use Rattle.world_history.proofs.MayBeSaid.{client_gives}

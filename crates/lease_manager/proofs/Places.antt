@@ -1,5 +1,5 @@
 -- Who stands at which place, and who takes part in a client's own moves.
-use Rattle.std.proofs.Common.{◌≡◌, ◌≢◌, ◌⊎◌, inl, inr, ℕ, ◌+◌, ◌-◌, ◌<◌, ◌≤◌, ◌==◌, ◌||◌, cond, eqb, Bool, true, false, refl, sym, ap, ◌∙◌, arith, eq-eqb, ne_eqb, true≢false}
+use Rattle.std.proofs.Common.{◌≡◌, ◌⊎◌, inl, inr, ℕ, ◌+◌, ◌-◌, ◌<◌, ◌≤◌, ◌==◌, ◌||◌, cond, eqb, Bool, true, false, refl, sym, ap, ◌∙◌, arith, eq-eqb, ne_eqb}
 use Rattle.std.specs.Prelude.{◌&&◌, nat_lt}
 use Rattle.std.proofs.lemmas.Bool.{le-ltb, lt-ltb}
 use Rattle.std.proofs.lemmas.Bool.Decides.{nat_tests}
@@ -10,7 +10,7 @@ use Rattle.world_history.specs.declared.moves.Move.{Move}
 use Rattle.world_history.specs.declared.moves.Move.TheVariants as moves
 use Rattle.world_history.specs.Moves.{client_of, restarts}
 use Rattle.world_history.specs.Participants.{Participant, OfClient, OfKernel, OfRegion, has_met, is_clients, is_kernels, is_regions, participant_at, takes_part}
-use Rattle.lease_manager.specs.Said.{is_of_lease, replies_in}
+use Rattle.lease_manager.specs.Said.{replies_in}
 
 -- ---- places
 

@@ -1,32 +1,30 @@
 -- A move that is said keeps the rule, whatever the table is.
-use Rattle.std.proofs.Common.{◌≡◌, ◌≢◌, ◌⊎◌, inl, inr, ℕ, ◌+◌, ◌-◌, ◌%◌, ◌^◌, ◌<◌, ◌≤◌, ◌==◌, ◌||◌, cond, eqb, Bool, true, false, List, [], ◌∷◌, ◌++◌, map, length, get_or, set, refl, sym, ap, ◌∙◌, subst, ⊎_elim, arith, length-set, get_or-set_same, get_or-set_other, eq-eqb, ne_eqb, true≢false}
+use Rattle.std.proofs.Common.{◌≡◌, inl, inr, ℕ, ◌+◌, ◌-◌, ◌%◌, ◌^◌, ◌<◌, ◌==◌, ◌||◌, cond, eqb, Bool, true, false, List, [], ◌∷◌, map, length, get_or, set, refl, sym, ap, ◌∙◌, subst, ⊎_elim, arith, length-set, get_or-set_same, get_or-set_other, eq-eqb, ne_eqb, true≢false}
 use Rattle.std.specs.Prelude.{◌&&◌}
 use Rattle.std.proofs.Math.Nat.{mod-add-mod}
 use Rattle.std.proofs.lemmas.Bool.{cases_Bool}
 use Rattle.std.proofs.lemmas.Bool.Decides.{eqb_tells}
 use Rattle.std.proofs.lemmas.List.{set-get_or}
 use mathlib.Core.Logic.{dite}
-use mathlib.Core.Option.{none, some}
+use mathlib.Core.Option.{none}
 use native.Mathlib.Decide.{ℕ_discrete}
-use lib.ListN.{get_elem?}
 use Rattle.atomic_table.specs.Table.{Step, step, keeps, stepped, Allows}
 use Rattle.posix_calls.specs.Run.{Turn}
 use Rattle.world_history.specs.world_invariant.file_graph.Graph.{is_among}
-use Rattle.world_history.specs.log_record.declared.format.Record.{Record}
 use Rattle.world_history.specs.declared.moves.Move.{Move}
 use Rattle.world_history.specs.declared.moves.Move.TheVariants as moves
 use Rattle.world_history.specs.Conditions.{MayFollow}
 use Rattle.world_history.specs.Configuration.{plain}
 use Rattle.world_history.specs.History.{after_moves, turns_in, SeesAll, IsHistory}
-use Rattle.world_history.specs.Participants.{Participant, OfClient, OfKernel, OfRegion, moves_of, participant_at, takes_part}
+use Rattle.world_history.specs.Participants.{moves_of, participant_at, takes_part}
 use Rattle.world_history.specs.Parts.{reads_then, writes_then}
-use Rattle.world_history.specs.Together.{Every, Has, HasClients, HasTurnsOf, Lists, PartMoves, Together}
+use Rattle.world_history.specs.Together.{Every, Has, HasClients, HasTurnsOf, Lists, PartMoves}
 use Rattle.world_history.proofs.Together.{every, has_turns}
 use Rattle.lease_manager.specs.declared.view.Part.{Part}
 use Rattle.lease_manager.specs.Marks.{Shows, is_reading, is_writing}
 use Rattle.lease_manager.specs.Parts.{place_of, mode_at, first_part, other_parts, AreCompatible, ShareHistory}
 use Rattle.lease_manager.specs.Said.{ArePlaced, AreTogether, CanSay, IsAboard, IsDigestOf, IsReplyOf, IsSilent, digest_count, digested_in, is_of_lease, listing, replies_in, reply_count, with_move}
-use Rattle.lease_manager.specs.Law.{CountLaw, IsRuled, Law, MoveLaw, SeatState, TableState}
+use Rattle.lease_manager.specs.Law.{CountLaw, IsRuled, Law, SeatState, TableState}
 use Rattle.lease_manager.specs.Plays.{HasSaid, HaveMet, HaveMetApart, having_met, meeting, numbers}
 use Rattle.lease_manager.proofs.OneWord.{same_shows}
 use Rattle.lease_manager.proofs.Places.{client_at, next_equal, own_takes, place_is, region_at, reply_is_own}

@@ -1,8 +1,8 @@
-use Rattle.std.proofs.Common.{ℕ, ◌+◌, ◌<◌, List, [], ◌∷◌, arith, sym, ap, ◌∙◌, subst}
+use Rattle.std.proofs.Common.{List, arith, sym, ap, ◌∙◌, subst}
 use Rattle.lease_manager.specs.declared.view.Part.{Part}
 use Rattle.lease_manager.specs.Law.{SeatState}
 use Rattle.lease_manager.specs.Parts.{own_part}
-use Rattle.lease_manager.specs.Said.{ArePlaced, CanSay, IsAboard, IsReplyOf}
+use Rattle.lease_manager.specs.Said.{ArePlaced, CanSay, IsAboard}
 use Rattle.lease_manager.proofs.Sayings.{acknowledges, one_placed, reply_aboard}
 use Rattle.lease_manager.proofs.table.Leases.acknowledge_on.Goals as goal
 

@@ -1,11 +1,10 @@
-use Rattle.std.proofs.Common.{◌≡◌, ℕ, ◌+◌, ◌<◌, List, [], ◌∷◌, arith, sym, ap, ◌∙◌, subst}
-use Rattle.std.specs.Prelude.{option_map}
+use Rattle.std.proofs.Common.{◌+◌, List, [], ◌∷◌, sym, ap, ◌∙◌, subst}
 use Rattle.lease_manager.specs.declared.view.Part.{Part}
 use Rattle.lease_manager.specs.Law.{SeatState}
 use Rattle.lease_manager.specs.Parts.{own_part}
-use Rattle.lease_manager.specs.Passes.{PartView, PassView}
+use Rattle.lease_manager.specs.Passes.{PartView}
 use Rattle.lease_manager.specs.Said.{AreTogether, CanSay, IsDigestOf}
-use Rattle.lease_manager.proofs.PassFacts.{below_17, own_alone, said_part, said_part_view, said_pass, said_view}
+use Rattle.lease_manager.proofs.PassFacts.{said_part, said_part_view}
 use Rattle.lease_manager.proofs.table.Leases.digest.Goals as goal
 
 pub digest_joined-requires-clause-region : goal.digest_joined-requires-clause-region

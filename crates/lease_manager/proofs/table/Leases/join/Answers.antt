@@ -1,7 +1,6 @@
-use Rattle.std.proofs.Common.{◌≡◌, List, [], ◌∷◌, ◌++◌, arith, sym, ap, ◌∙◌}
+use Rattle.std.proofs.Common.{List, ◌++◌, arith, sym, ap, ◌∙◌}
 use Rattle.atomic_table.specs.declared.shared.Seat.{Seat}
 use Rattle.lease_manager.specs.declared.view.Part.{Part}
-use Rattle.lease_manager.specs.Law.{SeatState}
 use Rattle.lease_manager.proofs.Seats.{splits_aside, joins_together}
 use Rattle.lease_manager.proofs.table.Leases.join.Goals as goal
 

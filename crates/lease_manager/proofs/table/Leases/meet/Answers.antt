@@ -5,8 +5,7 @@ use Rattle.seat_book.specs.Book.{HoldsPart}
 use Rattle.lease_manager.specs.declared.view.Part.{Part}
 use Rattle.lease_manager.specs.Law.{SeatState}
 use Rattle.lease_manager.specs.Parts.{own_part, AreCompatible, ShareHistory}
-use Rattle.lease_manager.specs.Passes.{PartView, PassView}
-use Rattle.lease_manager.specs.Plays.{having_met}
+use Rattle.lease_manager.specs.Passes.{PassView}
 use Rattle.lease_manager.specs.Said.{AreTogether}
 use Rattle.lease_manager.proofs.PassFacts.{met_view, other_pass, own_alone}
 use Rattle.lease_manager.proofs.table.Leases.meet.Goals as goal

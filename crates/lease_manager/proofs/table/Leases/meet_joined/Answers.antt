@@ -1,9 +1,7 @@
-use Rattle.std.proofs.Common.{◌≡◌, List, [], ◌∷◌, ◌++◌, arith, sym, ap, ◌∙◌, subst}
-use Rattle.lease_manager.specs.declared.view.Part.{Part}
+use Rattle.std.proofs.Common.{◌≡◌, [], ◌∷◌, ◌++◌, arith, sym, ap, ◌∙◌, subst}
 use Rattle.lease_manager.specs.Law.{SeatState}
 use Rattle.lease_manager.specs.Parts.{own_part}
 use Rattle.lease_manager.specs.Said.{ArePlaced}
-use Rattle.lease_manager.proofs.PassFacts.{below_17}
 use Rattle.lease_manager.proofs.Sayings.{meets, met_apart, met_leases, met_steps, two_placed}
 use Rattle.lease_manager.proofs.table.Leases.meet_joined.Goals as goal
 

@@ -1,9 +1,8 @@
-use Rattle.std.proofs.Common.{◌≡◌, List, [], ◌∷◌, sym, ap, ◌∙◌, subst}
-use Rattle.std.specs.Prelude.{option_map}
+use Rattle.std.proofs.Common.{[], ◌∷◌, sym, ap, ◌∙◌, subst}
 use Rattle.lease_manager.specs.declared.view.Part.{Part}
 use Rattle.lease_manager.specs.Law.{SeatState}
 use Rattle.lease_manager.specs.Parts.{own_part}
-use Rattle.lease_manager.specs.Passes.{PartView, PassView}
+use Rattle.lease_manager.specs.Passes.{PassView}
 use Rattle.lease_manager.specs.Said.{AreTogether, CanSay, IsAboard}
 use Rattle.lease_manager.proofs.PassFacts.{below_17, own_alone, said_pass, said_view}
 use Rattle.lease_manager.proofs.table.Leases.say.Goals as goal

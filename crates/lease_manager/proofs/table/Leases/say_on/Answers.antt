@@ -1,9 +1,8 @@
-use Rattle.std.proofs.Common.{List, [], ◌∷◌, arith, sym, ap, ◌∙◌, subst}
-use Rattle.std.specs.Prelude.{map}
+use Rattle.std.proofs.Common.{List, arith, sym, ap, ◌∙◌, subst}
 use Rattle.lease_manager.specs.declared.view.Part.{Part}
 use Rattle.lease_manager.specs.Law.{SeatState}
 use Rattle.lease_manager.specs.Parts.{own_part}
-use Rattle.lease_manager.specs.Said.{AreTogether, ArePlaced, CanSay, IsAboard, with_move}
+use Rattle.lease_manager.specs.Said.{ArePlaced, CanSay, IsAboard}
 use Rattle.lease_manager.proofs.Sayings.{one_placed, says}
 use Rattle.lease_manager.proofs.table.Leases.say_on.Goals as goal
 
